@@ -1,0 +1,2 @@
+pub mod CodeName
+pub mod Place
