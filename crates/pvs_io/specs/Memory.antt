@@ -1,0 +1,83 @@
+-- A source, a sink and files in memory: what they are, what they answer, and what they are after it.
+use Rattle.std.specs.Prelude.{◌≡◌, ◌==◌, ◌-◌, ℕ, Bool, min, List, [], ◌∷◌, ◌++◌, length, take, drop, is_some, map, String, string_bytes, Vec, if◌then◌else◌}
+use Rattle.std.specs.List.{list_any}
+use Rattle.pvs_io.specs.Held.{Held, content_of}
+use Rattle.pvs_io.specs.Outside.{raised}
+use Rattle.pvs_io.specs.declared.source.Took.{Took}
+use Rattle.pvs_io.specs.declared.source.Took.TheVariants as took
+use Rattle.pvs_io.specs.declared.sink.Gave.{Gave}
+use Rattle.pvs_io.specs.declared.sink.Gave.TheVariants as gave
+use Rattle.pvs_io.specs.declared.files.Load.{Load}
+use Rattle.pvs_io.specs.declared.files.Load.TheVariants as load
+
+-- the calls that fail hold the call of that number
+abbrev pub is_listed : List ℕ → ℕ → Bool
+is_listed fails call = list_any (λ n. n == call) fails
+
+-- what a source in memory has left and gives at most at a call; the calls that fail, counted from 0;
+-- how many calls there were, and how many failed
+pub record SourceState : Type 0 where
+  pub left : List ℕ
+  pub piece : ℕ
+  pub fails : List ℕ
+  pub calls : ℕ
+  pub faults : ℕ
+
+-- what a take into so many places answers: it fails at the calls that are listed, and at no other
+abbrev pub take_answer : SourceState → ℕ → Took
+take_answer s places =
+    if is_listed s.fails s.calls then took.Failed
+    else (if length s.left == 0 then took.End else took.Bytes (min (min s.piece (length s.left)) places))
+
+-- the source after a take
+abbrev pub after_take : SourceState → Took → SourceState
+after_take s (took.Bytes n) = record s { left = drop n s.left; calls = raised s.calls }
+after_take s took.End = record s { calls = raised s.calls }
+after_take s took.Failed = record s { calls = raised s.calls; faults = raised s.faults }
+
+-- what a sink in memory was given, and how many bytes more it has room for; the calls that fail,
+-- counted from 0; how many calls there were, and how many failed
+pub record SinkState : Type 0 where
+  pub written : List ℕ
+  pub room : ℕ
+  pub fails : List ℕ
+  pub calls : ℕ
+  pub faults : ℕ
+
+-- what a give of so many bytes answers: it fails at the calls that are listed and where no room is left
+abbrev pub give_answer : SinkState → ℕ → Gave
+give_answer s count =
+    if is_listed s.fails s.calls then gave.Failed
+    else (if s.room == 0 then gave.Failed else gave.Bytes (min s.room count))
+
+-- the sink after a give of these bytes
+abbrev pub after_give : SinkState → List ℕ → Gave → SinkState
+after_give s bytes (gave.Bytes n) = record s { written = s.written ++ take n bytes; room = s.room - n; calls = raised s.calls }
+after_give s bytes gave.Failed = record s { calls = raised s.calls; faults = raised s.faults }
+
+-- what files hold by their names and contents in the code
+abbrev pub held_of : {Y Z : Type 0} → List (String Y × Vec ℕ Z) → Held
+held_of files = map (λ file. (string_bytes file.0, file.1.items)) files
+
+-- what files in memory hold, and what they were asked for; the calls that fail, counted from 0; how
+-- many calls there were, and how many failed
+pub record FilesState : Type 0 where
+  pub held : Held
+  pub asked : List (List ℕ)
+  pub fails : List ℕ
+  pub calls : ℕ
+  pub faults : ℕ
+
+-- what a load of that name answers where memory is found: it fails at the calls that are listed and
+-- where no file has the name
+abbrev pub load_answer : FilesState → List ℕ → Load
+load_answer s name =
+    if is_listed s.fails s.calls then load.Failed
+    else (if is_some (content_of s.held name) then load.Done else load.Failed)
+
+-- the files after a load of that name; where memory is wanting, the names that were asked for are left open
+abbrev pub IsAfterLoad : FilesState → FilesState → List ℕ → Load → Type 0
+IsAfterLoad old new name load.Done = new ≡ record old { asked = old.asked ++ name ∷ []; calls = raised old.calls }
+IsAfterLoad old new name load.Failed =
+    new ≡ record old { asked = old.asked ++ name ∷ []; calls = raised old.calls; faults = raised old.faults }
+IsAfterLoad old new name load.Memory = new ≡ record old { asked = new.asked; calls = raised old.calls }

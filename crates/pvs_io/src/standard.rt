@@ -1,0 +1,113 @@
+//! A source and a sink over the standard streams. They tell nothing of the bytes.
+
+ghost use Rattle.std.specs.Prelude.{◌≡◌, ◌<◌, None, length};
+ghost use Rattle.pvs_io.specs.Outside.{Gives, HasCause, IsGiveOf, IsTakeOf, Takes};
+ghost use Rattle.pvs_io.specs.Standard.{AddsTo, TakesFrom, faults_after_give, faults_after_take};
+
+use crate::sink::{Gave, Sink};
+use crate::source::{Source, Took};
+use std::io::{Read, Write};
+use std::marker::Model;
+
+/// A source over a reader, as standard input is one. Contracts see the reader and the count of
+/// its errors.
+#[derive(Drop)]
+pub struct StdSource<R> {
+    reader: R,
+    faults: u64,
+}
+
+impl<R> Model for StdSource<R> {
+    ghost use Rattle.pvs_io.specs.Standard.{Counted};
+
+    ghost Value = { Counted R };
+
+    ghost view = { λ s. record { stream = s.reader; faults = s.faults } };
+}
+
+impl<R> StdSource<R> {
+    /// A source that has not failed yet. This takes no memory.
+    pub fn new(reader: R) -> StdSource<R>
+        ensures stream { result.stream ≡ reader }
+        ensures faults { result.faults ≡ 0 }
+    {
+        StdSource { reader, faults: 0 }
+    }
+}
+
+impl<R: Read> Source for StdSource<R> {
+    ghost left = { λ _. None };
+
+    ghost faults = { λ s. s.faults };
+
+    fn take(&mut self, into: &mut [u8]) -> Took
+        requires { 0 < length into.old }
+        ensures taken { TakesFrom (R.remaining self.old.stream) (R.remaining self.new.stream) result into.new }
+        ensures faults { self.new.faults ≡ faults_after_take self.old.faults result }
+
+        // The trait's.
+        ensures count { IsTakeOf (length into.old) result }
+        ensures bytes { Takes None None result into.new }
+        ensures cause { HasCause self.old.faults self.new.faults (result ≡ Took.Failed) }
+    {
+        match self.reader.read(into) {
+            Ok(0) => Took::End,
+            Ok(count) => Took::Bytes(count),
+            Err(_) => {
+                self.faults = self.faults.saturating_add(1);
+                Took::Failed
+            }
+        }
+    }
+}
+
+/// A sink over a writer, as standard output is one. Contracts see the writer and the count of
+/// its errors and of the times that it took nothing. Each give flushes the writer. Where that
+/// fails, the give fails, and the writer may have got some of the bytes all the same.
+#[derive(Drop)]
+pub struct StdSink<W> {
+    writer: W,
+    faults: u64,
+}
+
+impl<W> Model for StdSink<W> {
+    ghost use Rattle.pvs_io.specs.Standard.{Counted};
+
+    ghost Value = { Counted W };
+
+    ghost view = { λ s. record { stream = s.writer; faults = s.faults } };
+}
+
+impl<W> StdSink<W> {
+    /// A sink that has not failed yet. This takes no memory.
+    pub fn new(writer: W) -> StdSink<W>
+        ensures stream { result.stream ≡ writer }
+        ensures faults { result.faults ≡ 0 }
+    {
+        StdSink { writer, faults: 0 }
+    }
+}
+
+impl<W: Write> Sink for StdSink<W> {
+    ghost written = { λ _. None };
+
+    ghost faults = { λ s. s.faults };
+
+    fn give(&mut self, bytes: &[u8]) -> Gave
+        requires { 0 < length bytes.now }
+        ensures added { AddsTo (W.contents self.old.stream) (W.contents self.new.stream) result bytes.now }
+        ensures faults { self.new.faults ≡ faults_after_give self.old.faults result }
+
+        // The trait's.
+        ensures count { IsGiveOf (length bytes.now) result }
+        ensures bytes { Gives None None result bytes.now }
+        ensures cause { HasCause self.old.faults self.new.faults (result ≡ Gave.Failed) }
+    {
+        let count = self.writer.write(bytes).unwrap_or(0);
+        if count == 0 || self.writer.flush().is_err() {
+            self.faults = self.faults.saturating_add(1);
+            return Gave::Failed;
+        }
+        Gave::Bytes(count)
+    }
+}
