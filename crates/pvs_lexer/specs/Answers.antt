@@ -1,0 +1,22 @@
+-- What one call of a lexer answers, and what it leaves.
+use Rattle.std.specs.Prelude.{List, [], ◌∷◌, Option, Some, None, Result, Ok, Err}
+use Rattle.pvs_base.specs.declared.code.Fault.{Fault}
+use Rattle.pvs_lexer.specs.declared.token.Token.{Token}
+use Rattle.pvs_lexer.specs.Tokens.{Lexed, nothing}
+
+abbrev pub first_of : List Token → Option Fault → Option (Result Token Fault)
+first_of (token ∷ tokens) fault = Some (Ok token)
+first_of [] (Some fault) = Some (Err fault)
+first_of [] None = None
+
+abbrev pub behind_first : List Token → Option Fault → Lexed
+behind_first (token ∷ tokens) fault = record { tokens = tokens; fault = fault }
+behind_first [] fault = nothing
+
+-- the first of the tokens that come; where none does, the fault; and nothing at the end
+abbrev pub answer_of : Lexed → Option (Result Token Fault)
+answer_of lexed = first_of lexed.tokens lexed.fault
+
+-- what comes behind the first token, or behind the fault: nothing, at the end too
+abbrev pub behind_answer : Lexed → Lexed
+behind_answer lexed = behind_first lexed.tokens lexed.fault

@@ -1,0 +1,6 @@
+pub mod Answers
+pub mod Cursor
+pub mod Keywords
+pub mod Scan
+pub mod Spans
+pub mod Tokens
