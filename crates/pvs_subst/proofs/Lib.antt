@@ -1,0 +1,6 @@
+pub mod ReplaceLaws
+pub mod InstanceLaws
+pub mod SizeLaws
+pub mod Kept
+pub mod InstanceKept
+pub mod ContextLaws

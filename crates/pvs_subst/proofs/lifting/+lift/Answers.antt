@@ -1,0 +1,16 @@
+use Rattle.std.proofs.Common.{arith, rules}
+use Rattle.pvs_terms.specs.Stored.{tree_at}
+use Rattle.pvs_subst.specs.Replace.{lift}
+use Rattle.pvs_subst.proofs.ReplaceLaws.{lift-closed}
+use Rattle.pvs_subst.proofs.Kept.{stands_unchanged, choose_stands}
+use Rattle.pvs_subst.proofs.lifting.+lift.Goals as goal
+
+pub lift_from-returns-then-free_below-from-clause-ok : goal.lift_from-returns-then-free_below-from-clause-ok
+lift_from-returns-then-free_below-from-clause-ok t c =
+    stands_unchanged c.requires.node c.view-node.ensures.fits
+    (lift-closed (tree_at c.args.store.now c.args.id) c.args.by c.args.from (omega (arith, c.free_below.ensures, c.if-free_below-from.true)))
+
+pub lift_parts-returns-in_ok-c-in-Choose-clause-ok : goal.lift_parts-returns-in_ok-c-in-Choose-clause-ok
+lift_parts-returns-in_ok-c-in-Choose-clause-ok t c =
+    rw c.in-Choose.is (choose_stands (λ x y. lift x c.args.by c.args.from) c.in-Choose.a c.in-Choose.b c.in-Choose.c c.in-Choose.b c.in_ok-a-in-Choose.ensures.kept c.in_ok-b-in-Choose.ensures.kept c.in_ok-c-in-Choose.ensures.kept
+    (search rules) (search rules) (search rules) c.in_ok-a-in-Choose.ensures.ok c.in_ok-b-in-Choose.ensures.ok c.in_ok-c-in-Choose.ensures.ok)

@@ -1,0 +1,5 @@
+use Rattle.pvs_terms.specs.Stored.{IsNode}
+use Rattle.pvs_subst.proofs.tests.chain.Given as goal
+
+abbrev pub invariant-loop : goal.invariant-loop
+invariant-loop l = IsNode l.store l.formula

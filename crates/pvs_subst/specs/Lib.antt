@@ -1,0 +1,6 @@
+pub mod Replace
+pub mod Instance
+pub mod Faults
+pub mod Compound
+pub mod Given
+pub mod Contexts

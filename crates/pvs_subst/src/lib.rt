@@ -1,0 +1,17 @@
+//! Replacement in core trees: lifting, putting in and instances.
+#![tactic(auto)]
+
+mod context;
+mod fault;
+mod instances;
+mod lifting;
+mod putting;
+
+pub use context::{Assumed, Condition, Context};
+pub use fault::SubstFault;
+pub use instances::instantiate_node;
+pub use lifting::lift;
+pub use putting::put_in;
+
+#[cfg(test)]
+mod tests;

@@ -1,0 +1,99 @@
+//! Lifting.
+
+ghost use Rattle.std.specs.Prelude.{◌≡◌, ℕ, ◌+◌, ◌<◌, ◌^◌, ◌≤◌, length, IfOk, IfSome, IfNone, Err};
+ghost use Rattle.pvs_terms.specs.Tree.{depth, Fits};
+ghost use Rattle.pvs_terms.specs.Stored.{IsNode, tree_at, shape_tree, ShapeIn, Stands, StandsAs, Extends};
+ghost use Rattle.pvs_subst.specs.Replace.{lift, raised};
+
+use crate::fault::SubstFault;
+use pvs_base::MAX_INDEX;
+use pvs_terms::{Id, Shape, Store};
+
+/// The index after lifting, while it is within the limit.
+#[tactic(auto, using(crate::proofs::ReplaceLaws::raised_below, crate::proofs::ReplaceLaws::raised_above))]
+fn raise(n: u32, by: u32, from: u64) -> Option<u32>
+    ensures some { IfSome result (λ m. (m ≡ raised by from n) × (m ≤ 1000000)) }
+    ensures none { IfNone result (1000000 < raised by from n) }
+{
+    if u64::from(n) < from {
+        if n > MAX_INDEX { None } else { Some(n) }
+    } else if by > MAX_INDEX || n > MAX_INDEX - by {
+        None
+    } else {
+        Some(n + by)
+    }
+}
+
+/// Raises each free index that is at least `from`. A part without such an index is handed back
+/// as it is.
+#[cycle(lift)]
+fn lift_from(store: &mut Store, id: Id, by: u32, from: u64) -> Result<Id, SubstFault>
+    requires node { IsNode store.old id }
+    requires room { from + depth (tree_at store.old id) < 2 ^ 34 }
+    ensures ok { IfOk result (Stands store.new (lift (tree_at store.old id) by from)) }
+    ensures large { result ≡ Err SubstFault.TooLarge → ¬ Fits (lift (tree_at store.old id) by from) }
+    ensures kept { Extends store.old store.new }
+{
+    let node = store.view(id);
+    if store.free_below(id) <= from {
+        return Ok(id);
+    }
+    let lifted = lift_parts(store, node.shape(), by, from)?;
+    let lifted_id = store.make(lifted.node())?;
+    Ok(lifted_id)
+}
+
+/// The parts lifted.
+#[cycle(lift)]
+#[tactic(auto, using(pvs_terms::proofs::StoredLaws::extends_trans))]
+fn lift_parts(store: &mut Store, shape: Shape, by: u32, from: u64) -> Result<Shape, SubstFault>
+    requires parts { ShapeIn store.old shape }
+    requires room { from + depth (shape_tree store.old shape) < 2 ^ 34 }
+    ensures ok { IfOk result (StandsAs store.new (lift (shape_tree store.old shape) by from)) }
+    ensures large { result ≡ Err SubstFault.TooLarge → ¬ Fits (lift (shape_tree store.old shape) by from) }
+    ensures kept { Extends store.old store.new }
+{
+    match shape {
+        Shape::Leaf(plain) => Ok(Shape::Leaf(plain)),
+        Shape::Name(sort, r) => Ok(Shape::Name(sort, r)),
+        Shape::Index(n) => match raise(n, by, from) {
+            None => Err(SubstFault::TooLarge),
+            Some(n) => Ok(Shape::Index(n)),
+        },
+        Shape::Bind(binder, a, b) => {
+            let a = lift_from(store, a, by, from)?;
+            let b = lift_from(store, b, by, from + 1)?;
+            Ok(Shape::Bind(binder, a, b))
+        }
+        Shape::Join(joint, a, b) => {
+            let a = lift_from(store, a, by, from)?;
+            let b = lift_from(store, b, by, from)?;
+            Ok(Shape::Join(joint, a, b))
+        }
+        Shape::Project(part, a) => {
+            let a = lift_from(store, a, by, from)?;
+            Ok(Shape::Project(part, a))
+        }
+        Shape::Choose(a, b, c) => {
+            let a = lift_from(store, a, by, from)?;
+            let b = lift_from(store, b, by, from)?;
+            let c = lift_from(store, c, by, from)?;
+            Ok(Shape::Choose(a, b, c))
+        }
+    }
+}
+
+/// Raises each free index that is at least `from` by `by`.
+pub fn lift(store: &mut Store, id: Id, by: u32, from: u32) -> Result<Id, SubstFault>
+    requires { IsNode store.old id }
+    ensures ok { IfOk result (Stands store.new (lift (tree_at store.old id) by from)) }
+    ensures large { result ≡ Err SubstFault.TooLarge → ¬ Fits (lift (tree_at store.old id) by from) }
+    ensures kept { Extends store.old store.new }
+{
+    let _node = store.view(id);
+    let _depth = store.depth(id);
+    if by == 0 {
+        return Ok(id);
+    }
+    lift_from(store, id, by, u64::from(from))
+}

@@ -1,0 +1,127 @@
+//! Each public call once with its answer, the limits, and parts that stay as they are.
+
+ghost use Rattle.std.specs.Prelude.{◌≡◌, ◌<◌, length, IfOk};
+ghost use Rattle.pvs_terms.specs.Tree as tree;
+ghost use Rattle.pvs_terms.specs.Stored.{IsNode, tree_at, Stands, Extends};
+
+use crate::{Assumed, Condition, Context, SubstFault, instantiate_node, lift, put_in};
+use pvs_terms::{Id, MakeFault, Node, RefKind, Store};
+use sqlite_items::Items;
+use std::alloc::AllocError;
+use std::test::Fail;
+
+#[test]
+fn lifting_goes_under_binders(rt: HostRuntime) -> Result<(), Fail> {
+    let mut store = Store::new(rt.alloc())?;
+    let boolean = store.make(Node::TBool)?;
+    let free = store.make(Node::Var(1))?;
+    let function = store.make(Node::Lam(boolean, free))?;
+    let lifted = lift(&mut store, function, 3, 0)?;
+    if let Node::Lam(_, body) = store.view(lifted) {
+        assert!(rt; store.view(body) == Node::Var(4));
+    } else {
+        assert!(rt; false);
+    }
+    assert!(rt; lift(&mut store, lifted, 3, 4)? == lifted);
+    Ok(())
+}
+
+#[test]
+fn lifting_ends_at_the_index(rt: HostRuntime) -> Result<(), Fail> {
+    let mut store = Store::new(rt.alloc())?;
+    let variable = store.make(Node::Var(999_999))?;
+    let last = lift(&mut store, variable, 1, 0)?;
+    assert!(rt; store.view(last) == Node::Var(1_000_000));
+    assert!(rt; lift(&mut store, last, 1, 0) == Err(SubstFault::TooLarge));
+    Ok(())
+}
+
+#[test]
+fn putting_in_lowers_the_others(rt: HostRuntime) -> Result<(), Fail> {
+    let mut store = Store::new(rt.alloc())?;
+    let first = store.make(Node::Var(0))?;
+    let second = store.make(Node::Var(1))?;
+    let body = store.make(Node::Eq(first, second))?;
+    let truth = store.make(Node::True)?;
+    let result = put_in(&mut store, body, truth)?;
+    if let Node::Eq(left, right) = store.view(result) {
+        assert!(rt; store.view(left) == Node::True);
+        assert!(rt; store.view(right) == Node::Var(0));
+    } else {
+        assert!(rt; false);
+    }
+    Ok(())
+}
+
+/// The first formal of a theory, as a term.
+fn formal(store: &mut Store) -> Result<Id, MakeFault>
+    ensures ok { IfOk result (Stands store.new (tree.Const (tree.Formal 0))) }
+    ensures kept { Extends store.old store.new }
+{
+    let r = store.reference(RefKind::Formal(0), &[])?;
+    let made = store.make(Node::Const(r))?;
+    Ok(made)
+}
+
+#[test]
+fn formals_become_actuals(rt: HostRuntime) -> Result<(), Fail> {
+    let mut store = Store::new(rt.alloc())?;
+    let theory = store.name("sets")?;
+    let truth = store.make(Node::True)?;
+    let constant = formal(&mut store)?;
+    let result = instantiate_node(&mut store, constant, theory, &[truth])?;
+    assert!(rt; result == truth);
+    Ok(())
+}
+
+/// The conjunction of a formula with itself.
+fn doubled(store: &mut Store, formula: Id) -> Result<Id, MakeFault>
+    requires { IsNode store.old formula }
+    ensures ok { IfOk result (IsNode store.new) }
+    ensures kept { Extends store.old store.new }
+{
+    let falsity = store.make(Node::False)?;
+    let both = store.make(Node::If(formula, formula, falsity))?;
+    Ok(both)
+}
+
+/// A formula of 786,430 nodes.
+fn chain(store: &mut Store) -> Result<Id, MakeFault>
+    ensures { IfOk result (IsNode store.new) }
+{
+    let mut formula = store.make(Node::True)?;
+    for _ in 0..18 {
+        formula = doubled(store, formula)?;
+    }
+    Ok(formula)
+}
+
+#[test]
+fn what_holds_no_index_stays(rt: HostRuntime) -> Result<(), Fail> {
+    let mut store = Store::new(rt.alloc())?;
+    let formula = chain(&mut store)?;
+    let variable = store.make(Node::Var(0))?;
+    let body = store.make(Node::Eq(formula, variable))?;
+    let result = put_in(&mut store, body, variable)?;
+    if let Node::Eq(left, _) = store.view(result) {
+        assert!(rt; left == formula);
+    } else {
+        assert!(rt; false);
+    }
+    Ok(())
+}
+
+#[test]
+fn conditions_hold_their_context(rt: HostRuntime) -> Result<(), Fail> {
+    let mut store = Store::new(rt.alloc())?;
+    let boolean = store.make(Node::TBool)?;
+    let goal = store.make(Node::Var(0))?;
+    let items = Items::from_slice(rt.alloc(), &[Assumed::Hyp(goal), Assumed::Bind(boolean)])?;
+    let condition = Condition {
+        context: Context { items },
+        goal,
+    };
+    assert!(rt; condition.context.items.len() == 2);
+    assert!(rt; condition.goal == goal);
+    Ok(())
+}

@@ -1,0 +1,4 @@
+pub mod TreeLaws
+pub mod TextLaws
+pub mod StoredLaws
+pub mod StoreLaws

@@ -1,0 +1,18 @@
+use Rattle.pvs_terms.proofs.StoreLaws.{ref_seen}
+use Rattle.pvs_terms.proofs.store.Store.actuals.Goals as goal
+
+pub returns-clause-trees : goal.returns-clause-trees
+returns-clause-trees c =
+    let seen = ref_seen c.args.r c.index-entry.result.now c.self.invariant c.self.view_is c.requires (rw (← c.number.ensures) c.index-entry.ensures) in
+    rw c.as_slice.ensures seen.trees
+
+pub returns-clause-nodes : goal.returns-clause-nodes
+returns-clause-nodes c =
+    let seen = ref_seen c.args.r c.index-entry.result.now c.self.invariant c.self.view_is c.requires (rw (← c.number.ensures) c.index-entry.ensures) in
+    rw c.as_slice.ensures seen.actuals
+
+pub returns-clause-closed : goal.returns-clause-closed
+returns-clause-closed c = (ref_seen c.args.r c.index-entry.result.now c.self.invariant c.self.view_is c.requires (rw (← c.number.ensures) c.index-entry.ensures)).closed
+
+pub returns-clause-fits : goal.returns-clause-fits
+returns-clause-fits c = (ref_seen c.args.r c.index-entry.result.now c.self.invariant c.self.view_is c.requires (rw (← c.number.ensures) c.index-entry.ensures)).fits

@@ -1,0 +1,11 @@
+use Rattle.pvs_terms.proofs.StoreLaws.{entry_is_right}
+use Rattle.pvs_terms.proofs.store.Store.view.Goals as goal
+
+pub returns-clause-tree : goal.returns-clause-tree
+returns-clause-tree c = (entry_is_right c.args.id c.index.result.now c.self.invariant c.self.view_is c.requires (rw (← c.number.ensures) c.index.ensures)).tree
+
+pub returns-clause-parts : goal.returns-clause-parts
+returns-clause-parts c = (entry_is_right c.args.id c.index.result.now c.self.invariant c.self.view_is c.requires (rw (← c.number.ensures) c.index.ensures)).parts
+
+pub returns-clause-fits : goal.returns-clause-fits
+returns-clause-fits c = (entry_is_right c.args.id c.index.result.now c.self.invariant c.self.view_is c.requires (rw (← c.number.ensures) c.index.ensures)).fits

@@ -1,0 +1,6 @@
+use Rattle.std.proofs.Common.{◌<◌, ◌^◌}
+use Rattle.pvs_terms.specs.Stored.{IsNode}
+use Rattle.pvs_terms.proofs.tests.a_chain_of_conjunctions_ends_at_its_size.Given as goal
+
+abbrev pub invariant-loop : goal.invariant-loop
+invariant-loop _ l = IsNode l.store l.formula × (l.size < 2 ^ 40)

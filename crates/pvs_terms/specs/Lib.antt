@@ -1,0 +1,6 @@
+pub mod Tree
+pub mod Shapes
+pub mod Stored
+pub mod Measures
+pub mod Texts
+pub mod StoreView

@@ -1,0 +1,19 @@
+//! Core trees by number: a store of nodes, names and references.
+#![tactic(auto)]
+
+mod compare;
+mod fault;
+mod measure;
+mod names;
+mod node;
+mod reference;
+mod shape;
+mod store;
+
+pub use fault::MakeFault;
+pub use node::{Id, Name, Node, RefId, RefKind};
+pub use shape::{Binder, Joint, Part, Plain, Shape, Sort};
+pub use store::Store;
+
+#[cfg(test)]
+mod tests;

@@ -1,0 +1,232 @@
+//! A store of nodes, names and references.
+
+ghost use Rattle.std.specs.Prelude.{◌≡◌, ℕ, ◌<◌, ◌≤◌, [], length, IfOk, IfErr, OnErr, OnOk};
+
+use crate::fault::MakeFault;
+use crate::measure::Measure;
+use crate::names::Names;
+use crate::node::{Id, Name, Node, RefId, RefKind};
+use crate::shape::Shape;
+use smallvec::SmallVec;
+use std::alloc::{AllocError, Global};
+use std::marker::Model;
+
+/// A node and the measure of its tree.
+#[derive(Clone, Copy, Debug)]
+pub(crate) struct Entry {
+    pub(crate) node: Node,
+    pub(crate) measure: Measure,
+}
+
+/// A reference and its measure.
+#[derive(Drop)]
+pub(crate) struct RefEntry {
+    pub(crate) kind: RefKind,
+    pub(crate) actuals: SmallVec<Id, 4>,
+    pub(crate) measure: Measure,
+}
+
+/// Nodes, names and references by number. A number stands for one tree, text or reference for
+/// good.
+#[derive(Drop)]
+pub struct Store {
+    pub(crate) names: Names,
+    pub(crate) entries: Vec<Entry>,
+    pub(crate) refs: Vec<RefEntry>,
+    pub(crate) alloc: Global,
+}
+
+impl Model for Store {
+    ghost use Rattle.pvs_terms.specs.Stored.{Stored};
+
+    ghost Value = { Stored };
+
+    ghost use Rattle.pvs_terms.specs.StoreView.{stored, IsSound};
+
+    ghost view = { λ s. stored s.names s.entries.items s.refs.items };
+
+    ghost invariant = { λ s. IsSound s.names s.entries.items s.refs.items };
+}
+
+impl Store {
+    ghost use Rattle.std.specs.Prelude.{◌↔◌, ◌≢◌, IsTrue, IfSome, IfNone, Err, bytes_eq};
+    ghost use Rattle.pvs_terms.specs.Tree.{depth, size, free_below, is_local, tree_eq, ref_eq, trees_eq, ref_actuals, AreClosed, Fits, Const, Text};
+    ghost use Rattle.pvs_terms.specs.Stored.{tree_at, ref_at, text_at, trees_at, IsNode, IsRef, IsName, AreNodes, AllBelow, KindIn, MayHave, HasParts, PartsIn};
+    ghost use Rattle.pvs_terms.specs.Stored.{node_tree, ref_of, given_ref, Stands, StandsRef, StandsName, Extends};
+    ghost use Rattle.pvs_terms.specs.Measures.{measure_of, ref_measure, trees_measure, above, beside, under, IsSmall};
+    ghost use Rattle.pvs_terms.specs.Shapes.{shape_of};
+
+    /// A store without nodes, names and references.
+    pub fn new(alloc: Global) -> Result<Store, AllocError>
+        ensures { IfOk result (λ s. s ≡ record { names = []; nodes = []; refs = [] }) }
+    {
+        Ok(Store {
+            names: Names::new(alloc),
+            entries: Vec::new(alloc),
+            refs: Vec::new(alloc),
+            alloc,
+        })
+    }
+
+    /// The allocator that the store takes its memory from.
+    pub fn allocator(&self) -> Global {
+        self.alloc
+    }
+
+    /// The name of this text.
+    #[tactic(auto, unfolding(crate::specs::Stored::text_at))]
+    pub fn name(&mut self, text: &str) -> Result<Name, AllocError>
+        ensures ok { IfOk result (StandsName self.new text.now) }
+
+        // Equal texts have equal names.
+        ensures only { IfOk result (λ n. (m : ℕ) → IsName self.new m → text_at self.new m ≡ text.now → m ≡ n) }
+        ensures kept { Extends self.old self.new }
+        ensures err { OnErr result (self.new ≡ self.old) }
+    {
+        let number = self.names.number(self.alloc, text)?;
+        Ok(Name::new(number))
+    }
+
+    /// The text of a name.
+    #[tactic(auto, unfolding(crate::specs::Stored::text_at))]
+    pub fn text(&self, name: Name) -> &str
+        requires { IsName self.now name }
+        ensures { result.now ≡ text_at self.now name }
+    {
+        self.names.text(name.number())
+    }
+
+    /// Whether the names have one text.
+    #[tactic(auto, unfolding(crate::specs::Stored::text_at))]
+    pub fn same_name(&self, a: Name, b: Name) -> bool
+        requires first { IsName self.now a }
+        requires second { IsName self.now b }
+        ensures { result ≡ bytes_eq (text_at self.now a) (text_at self.now b) }
+    {
+        self.names.same(a.number(), b.number())
+    }
+
+    /// The node of this number.
+    pub fn view(&self, id: Id) -> Node
+        requires { IsNode self.now id }
+        ensures tree { tree_at self.now id ≡ node_tree self.now result }
+
+        // Its parts are older, and its tree is within the limits.
+        ensures parts { HasParts id (length self.now.refs) (shape_of result) }
+        ensures fits { Fits (tree_at self.now id) }
+    {
+        self.entries[id.number() as usize].node
+    }
+
+    pub(crate) fn measure_at(&self, id: Id) -> Measure
+        requires { IsNode self.now id }
+        ensures value { result ≡ measure_of (tree_at self.now id) }
+        ensures small { IsSmall result }
+    {
+        self.entries[id.number() as usize].measure
+    }
+
+    /// The depth of the tree. A leaf has depth 1.
+    pub fn depth(&self, id: Id) -> u32
+        requires { IsNode self.now id }
+        ensures value { result ≡ depth (tree_at self.now id) }
+        ensures small { result ≤ 1000 }
+    {
+        self.measure_at(id).depth
+    }
+
+    /// The size of the tree. A node counts once for each place where it stands, with types and
+    /// actuals.
+    pub fn size(&self, id: Id) -> u64
+        requires { IsNode self.now id }
+        ensures value { result ≡ size (tree_at self.now id) }
+        ensures small { result ≤ 1000000 }
+    {
+        self.measure_at(id).size
+    }
+
+    /// The least number that every free index of the tree is below, 0 where the tree is closed.
+    pub fn free_below(&self, id: Id) -> u64
+        requires { IsNode self.now id }
+        ensures { result ≡ free_below (tree_at self.now id) }
+    {
+        self.measure_at(id).free
+    }
+
+    /// Whether an own entry or a formal of the theory occurs in the tree, within actuals too.
+    pub fn is_local(&self, id: Id) -> bool
+        requires { IsNode self.now id }
+        ensures { result ≡ is_local (tree_at self.now id) }
+    {
+        self.measure_at(id).local
+    }
+
+    fn ref_measure_at(&self, r: RefId) -> Measure
+        requires { IsRef self.now r }
+        ensures value { result ≡ ref_measure (ref_at self.now r) }
+        ensures small { IsSmall result }
+    {
+        let entry = &self.refs[r.number() as usize];
+        entry.measure
+    }
+
+    fn around(&self, a: Id, b: Id) -> Measure
+        requires first { IsNode self.now a }
+        requires second { IsNode self.now b }
+        ensures { result ≡ above (beside (measure_of (tree_at self.now a)) (measure_of (tree_at self.now b))) }
+    {
+        self.measure_at(a).beside(self.measure_at(b)).above()
+    }
+
+    fn around_bound(&self, a: Id, b: Id) -> Measure
+        requires first { IsNode self.now a }
+        requires second { IsNode self.now b }
+        ensures { result ≡ above (beside (measure_of (tree_at self.now a)) (under (measure_of (tree_at self.now b)))) }
+    {
+        self.measure_at(a)
+            .beside(self.measure_at(b).under())
+            .above()
+    }
+
+    fn around_three(&self, a: Id, b: Id, c: Id) -> Measure
+        requires first { IsNode self.now a }
+        requires second { IsNode self.now b }
+        requires third { IsNode self.now c }
+        ensures { result ≡ above (beside (measure_of (tree_at self.now a)) (beside (measure_of (tree_at self.now b)) (measure_of (tree_at self.now c)))) }
+    {
+        let rest = self.measure_at(b).beside(self.measure_at(c));
+        self.measure_at(a).beside(rest).above()
+    }
+
+    fn measure(&self, node: &Node) -> Measure
+        requires { PartsIn self.now node.now }
+        ensures { result ≡ measure_of (node_tree self.now node.now) }
+    {
+        match node.shape() {
+            Shape::Leaf(_) => Measure::leaf(),
+            Shape::Index(n) => Measure::variable(n),
+            Shape::Name(_, r) => self.ref_measure_at(r).above(),
+            Shape::Bind(_, a, b) => self.around_bound(a, b),
+            Shape::Join(_, a, b) => self.around(a, b),
+            Shape::Project(_, a) => self.measure_at(a).above(),
+            Shape::Choose(a, b, c) => self.around_three(a, b, c),
+        }
+    }
+
+    /// The number of a node, which stands for its tree.
+    pub fn make(&mut self, node: Node) -> Result<Id, MakeFault>
+        requires { PartsIn self.old node }
+        ensures ok { IfOk result (Stands self.new (node_tree self.old node)) }
+        ensures large { result ≡ Err MakeFault.TooLarge → ¬ Fits (node_tree self.old node) }
+        ensures kept { Extends self.old self.new }
+        ensures err { OnErr result (self.new ≡ self.old) }
+    {
+        let measure = self.measure(&node);
+        if !measure.is_small() {
+            return Err(MakeFault::TooLarge);
+        }
+        let id = Id::new(self.entries.len() as u64);
+        self.entries.push(Entry { node, measure })?;
+        Ok(id)
+    }
+}
