@@ -1,0 +1,11 @@
+pub mod Turns
+pub mod Decimal
+pub mod Steps
+pub mod Sound
+pub mod Complete
+pub mod Lists
+pub mod Names
+pub mod Declarations
+pub mod Scripts
+pub mod Units
+pub mod Fuel
