@@ -9,3 +9,12 @@ pub mod Declarations
 pub mod Scripts
 pub mod Units
 pub mod Fuel
+pub mod Yields
+pub mod DescentSteps
+pub mod Nonempty
+pub mod DescentSound
+pub mod Heads
+pub mod Gets
+pub mod DescentComplete
+pub mod OneExpression
+pub mod Worked

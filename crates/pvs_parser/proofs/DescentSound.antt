@@ -1,0 +1,731 @@
+-- What is read of expressions and types is in the grammar.
+use Rattle.std.proofs.Common.{◌≡◌, ◌∙◌, ℕ, zero, suc, ◌+◌, ◌<◌, ◌≤◌, Bool, true, false, if◌then◌else◌, List, [], ◌∷◌, ◌++◌, length, Option, Some, None, refl, sym, ap, subst, append_assoc, append-nil, length-append, arith}
+use Rattle.pvs_parser.specs.declared.nesting.Nesting.{Nesting}
+use Rattle.pvs_parser.specs.declared.terminal.Connective.{Connective}
+use Rattle.pvs_parser.specs.declared.terminal.Connective.TheVariants as connective
+use Rattle.pvs_parser.specs.declared.terminal.Terminal.{Terminal}
+use Rattle.pvs_parser.specs.declared.terminal.TerminalKind.{TerminalKind}
+use Rattle.pvs_parser.specs.declared.terminal.TerminalKind.TheVariants as kind
+use Rattle.pvs_syntax.specs.declared.word.Word.{Word}
+use Rattle.pvs_syntax.specs.declared.expression.Actual.{Actual}
+use Rattle.pvs_syntax.specs.declared.expression.Binding.{Binding}
+use Rattle.pvs_syntax.specs.declared.expression.BinderWord.{BinderWord}
+use Rattle.pvs_syntax.specs.declared.expression.BinderWord.TheVariants as binders
+use Rattle.pvs_syntax.specs.declared.expression.InfixWord.{InfixWord}
+use Rattle.pvs_syntax.specs.declared.expression.Expr.{Expr}
+use Rattle.pvs_syntax.specs.declared.expression.Expr.TheVariants as expr
+use Rattle.pvs_syntax.specs.declared.expression.LetPart.{LetPart}
+use Rattle.pvs_syntax.specs.declared.expression.NameExpr.{NameExpr}
+use Rattle.pvs_syntax.specs.declared.expression.TypeExpr.{TypeExpr}
+use Rattle.pvs_parser.specs.Terminals.{Is, IsId, pull, same_kind}
+use Rattle.pvs_parser.specs.Language.{Tokens, HasRoom, Derives, Ending, Plain, Bound, Form, Item, Nonterminal, form, item, list, name, inst, type_, Tree, ItemTree, inside, cleared, marked, held, tighter, sign, operator, instance, before_call, comparison, binder_word, begins_type, typed}
+use Rattle.pvs_parser.specs.Descent.{Read, Start, StartTree, Go, ◌>>=◌, either, after, list_from, list_with, framed_with, name_of, name_with, part_with, cond_with, first_of, first_with, call_mark, call_with, project, term_from, term_with, body_with, binder_with, let_with, not_with, Prefix, prefix, prefix_of_binder, prefixed_with, begins, compares, compared_from, operand_with, chain_on, between_with, chain_with, else_with, otherwise_of, otherwise_with, tuple_type, fun_type_with, sub_type_with, type_of, type_with, typed_with, expression_with, parameter_of, parameter_with, component_with, variable_with, definition_with, item_with, step, reader}
+use Rattle.pvs_parser.proofs.Yields.{Yields, here, none, bind, cases, weaken}
+use Rattle.pvs_syntax.specs.declared.expression.TypeExpr.TheVariants as type_expr
+use Rattle.pvs_parser.proofs.Nonempty.{nonempty}
+use Rattle.pvs_parser.proofs.DescentSteps.{Comes, after_yields, room, id_bind, labels_yields, begins_cases, compares_yields, number_yields, Splits, glue, put, alone, nothing}
+
+-- ---- what is said of an answer
+
+-- a front of the tokens derives the tree
+abbrev pub Front : (s : Nonterminal) → Nesting → Tokens → Tree s × Nesting × Tokens → Type 0
+Front s l ts p = (vs : Tokens) × Splits ts vs p.2 × Derives s l vs p.0 p.1
+
+abbrev pub pull_of : Tokens → ℕ
+pull_of [] = 0
+pull_of (t ∷ ts) = pull t.kind
+
+-- how tightly a connective binds
+abbrev pub power : Connective → ℕ
+power connective.Iff = 1
+power connective.Implies = 2
+power connective.Or = 3
+power connective.And = 4
+
+-- what binds less tightly does not go on with such an expression
+abbrev pub reach : Form → ℕ
+reach (Form.Chain c Plain) = power c
+reach (Form.Chain c Bound) = 1
+reach (Form.Operand Plain) = 5
+reach (Form.Operand Bound) = 1
+reach Form.Comparisons = 5
+reach (Form.Prefixed Plain) = 5
+reach (Form.Prefixed Bound) = 1
+reach (Form.Term b) = 6
+reach Form.Otherwise = 7
+
+-- a front of the tokens derives the expression, and what follows does not go on with it
+abbrev pub Formed : (Ending → Form) → Nesting → Tokens → Expr × Nesting × Tokens → Type 0
+Formed F l ts p = (e : Ending) × (vs : Tokens) × Splits ts vs p.2 × Derives (form (F e)) l vs p.0 p.1 × (pull_of p.2 < reach (F e))
+
+abbrev pub StartFront : (s : Start) → Nesting → Tokens → StartTree s × Nesting × Tokens → Type 0
+StartFront (Start.Chain c) l ts p = Formed (λ e. Form.Chain c e) l ts p
+StartFront Start.Operand l ts p = Formed (λ e. Form.Operand e) l ts p
+StartFront Start.Otherwise l ts p = Front (form Form.Otherwise) l ts p
+StartFront Start.TypeStart l ts p = Front type_ l ts p
+StartFront (Start.ItemStart i) l ts p = Front (item i) l ts p
+
+abbrev pub Sound : Go → Type 0
+Sound go = (s : Start) (l : Nesting) (ts : Tokens) → Yields (go s l ts) (StartFront s l ts)
+
+-- ---- lists
+
+-- a front of the tokens derives a list, which comes behind what was found
+abbrev ListFront : (i : Item) → ℕ → List (ItemTree i) → Nesting → Tokens → List (ItemTree i) × Nesting × Tokens → Type 0
+ListFront i n found l ts p = (xs : List (ItemTree i)) × (vs : Tokens) × Splits ts vs p.2 × (p.0 ≡ found ++ xs) × (length xs ≤ n) × Derives (list i) l vs xs p.1
+
+list_one : (i : Item) (n : ℕ) (found : List (ItemTree i)) (l : Nesting) (ts : Tokens) (p : ItemTree i × Nesting × Tokens) → Front (item i) l ts p → ListFront i (suc n) found l ts (found ++ p.0 ∷ [], p.1, p.2)
+list_one i n found l ts p f = (p.0 ∷ [], f.0, f.1, refl, omega arith, Derives.one i l p.1 f.0 p.0 f.2)
+
+list_more : (i : Item) (n : ℕ) → n < 200 → (found : List (ItemTree i)) (l : Nesting) (ts : Tokens) (p : ItemTree i × Nesting × Tokens) → Front (item i) l ts p → (us : Tokens) → Comes kind.Comma p.2 us
+    → (q : List (ItemTree i) × Nesting × Tokens) → ListFront i n (found ++ p.0 ∷ []) (cleared p.1) us q → ListFront i (suc n) found l ts q
+list_more i n lt found l ts p f us c q g = (
+  p.0 ∷ g.0,
+  f.0 ++ c.0 ∷ g.1,
+  glue f.1 (put c.1 g.2),
+  g.3 ∙ append_assoc found (p.0 ∷ []) g.0,
+  omega (arith, g.4),
+  Derives.more i l p.1 q.1 f.0 g.1 p.0 g.0 c.0 f.2 c.2 g.5 (omega (arith, g.4, lt)),
+)
+
+list_sound : (i : Item) (reads : Nesting → Tokens → Read (ItemTree i)) → ((l : Nesting) (ts : Tokens) → Yields (reads l ts) (Front (item i) l ts))
+    → (n : ℕ) → n ≤ 200 → (found : List (ItemTree i)) (l : Nesting) (ts : Tokens) → Yields (list_from reads n found l ts) (ListFront i n found l ts)
+unfolding list_from
+list_sound i reads sound zero le found l ts = none
+list_sound i reads sound (suc n) le found l ts =
+    bind (sound l ts) (λ p f. cases
+    (λ us a. weaken (λ q g. list_more i n (omega (arith, le)) found l ts p f us ((after_yields kind.Comma p.2).holds us a) q g) (list_sound i reads sound n (omega (arith, le)) (found ++ p.0 ∷ []) (cleared p.1) us))
+    (λ a. here (list_one i n found l ts p f)))
+
+list_with_sound : (go : Go) → Sound go → (i : Item) (l : Nesting) (ts : Tokens) → Yields (list_with go i l ts) (Front (list i) l ts)
+list_with_sound go sound i l ts =
+    weaken (λ p f. (f.1, f.2, subst (λ z. Derives (list i) l f.1 z p.1) (sym f.3) f.5)) (list_sound i (go (Start.ItemStart i)) (λ l ts. sound (Start.ItemStart i) l ts) 200 (omega arith) [] l ts)
+
+-- a list, and the sign that ends its frame
+abbrev Framed : (i : Item) → TerminalKind → Nesting → Tokens → List (ItemTree i) × Tokens → Type 0
+Framed i end l ts p = (vs : Tokens) × (u : Terminal) × (k : Nesting) × Splits ts (vs ++ u ∷ []) p.1 × HasRoom l × Derives (list i) (inside l) vs p.0 k × Is end u
+
+framed_sound : (go : Go) → Sound go → (i : Item) (end : TerminalKind) (l : Nesting) (ts : Tokens) → Yields (framed_with go i end l ts) (Framed i end l ts)
+framed_sound go sound i end l ts =
+    room l (inside l) _ (λ lt. bind (list_with_sound go sound i (inside l) ts) (λ p f. bind (after_yields end p.2) (λ us a. here (f.0, a.0, p.1, glue f.1 (alone a.1), lt, f.2, a.2))))
+
+-- ---- names
+
+abbrev NameFront : Nesting → Tokens → NameExpr × Tokens → Type 0
+NameFront l ts p = (vs : Tokens) × Splits ts vs p.1 × Derives name l vs p.0 l
+
+qualified_sound : (l : Nesting) (ts us rest : Tokens) (w : Word) (xs : List Actual) (d : Terminal) → Splits ts us (d ∷ rest) → Derives inst l us (instance w xs) l → Is kind.Dot d
+    → Yields (name_of w xs rest) (NameFront l ts)
+qualified_sound l ts us rest w xs d split i is =
+    id_bind rest _ (λ t vs e id_is. here (us ++ d ∷ t ∷ [], glue split (put refl (alone e)), Derives.qualified_name l l us (instance w xs) d t i is id_is))
+
+behind : {ts us rest : Tokens} {t : Terminal} → Splits ts us (t ∷ rest) → {vs : Tokens} → vs ≡ t ∷ rest → Splits ts us vs
+behind {ts = ts} {us = us} s e = subst (λ z. Splits ts us z) (sym e) s
+
+moved : {ts us vs rest : Tokens} → Splits ts us vs → vs ≡ rest → Splits ts us rest
+moved {ts = ts} {us = us} s e = subst (λ z. Splits ts us z) e s
+
+name_sound : (go : Go) → Sound go → (l : Nesting) (ts : Tokens) → Yields (name_with go l ts) (NameFront l ts)
+name_sound go sound l ts =
+    id_bind ts _ (λ t us e is. cases
+    (λ vs a. let c = (after_yields kind.OpenBracket us).holds vs a in
+    bind (framed_sound go sound Item.Parameter kind.CloseBracket l vs) (λ p f. bind (after_yields kind.Dot p.1) (λ ws d.
+    qualified_sound l ts (t ∷ c.0 ∷ (f.0 ++ f.1 ∷ [])) ws t.word p.0 d.0 (moved (put e (put c.1 f.3)) d.1)
+    (Derives.inst_with l f.2 f.0 p.0 t c.0 f.1 is c.2 f.4 f.5 f.6) d.2)))
+    (λ a. cases
+    (λ vs b. let d = (after_yields kind.Dot us).holds vs b in qualified_sound l ts (t ∷ []) vs t.word [] d.0 (moved (alone e) d.1) (Derives.plain_inst l t is) d.2)
+    (λ b. here (t ∷ [], alone e, Derives.plain_name l t is))))
+
+-- ---- terms
+
+abbrev FirstFront : Nesting → Tokens → Expr × Bool × Tokens → Type 0
+FirstFront l ts p = (vs : Tokens) × Splits ts vs p.2 × Derives (form (Form.Term p.1)) l vs p.0 l
+
+-- what stands behind IF or ELSIF
+record CondFront (w : Word) (l : Nesting) (ts : Tokens) (p : Expr × Nesting × Tokens) : Type 0 where
+  c : Expr
+  x : Expr
+  y : Expr
+  k : Nesting
+  j : Nesting
+  vs : Tokens
+  us : Tokens
+  ws : Tokens
+  u : Terminal
+  split : Splits ts (vs ++ u ∷ (us ++ ws)) p.2
+  test : Derives (item Item.Expression) l vs c k
+  behind : Is kind.Then u
+  holds : Derives (item Item.Expression) (cleared k) us x j
+  fails : Derives (form Form.Otherwise) j ws y p.1
+  is : expr.Cond c x y w.pos ≡ p.0
+
+abbrev PartFront : TerminalKind → Nesting → Tokens → Expr × Nesting × Tokens → Type 0
+PartFront end l ts p = (vs : Tokens) × (u : Terminal) × (k : Nesting) × Splits ts (vs ++ u ∷ []) p.2 × Derives (item Item.Expression) l vs p.0 k × Is end u × (p.1 ≡ cleared k)
+
+part_sound : (go : Go) → Sound go → (end : TerminalKind) (l : Nesting) (ts : Tokens) → Yields (part_with go end l ts) (PartFront end l ts)
+part_sound go sound end l ts =
+    bind (sound (Start.ItemStart Item.Expression) l ts) (λ p f. bind (after_yields end p.2) (λ us a. here (f.0, a.0, p.1, glue f.1 (alone a.1), f.2, a.2, refl)))
+
+cond_sound : (go : Go) → Sound go → (w : Word) (l : Nesting) (ts : Tokens) → Yields (cond_with go w l ts) (CondFront w l ts)
+cond_sound go sound w l ts =
+    bind (part_sound go sound kind.Then l ts) (λ p f. bind (sound (Start.ItemStart Item.Expression) p.1 p.2) (λ q g. bind (sound Start.Otherwise q.1 q.2) (λ r h. here (record {
+      c = p.0;
+      x = q.0;
+      y = r.0;
+      k = f.2;
+      j = q.1;
+      vs = f.0;
+      us = g.0;
+      ws = h.0;
+      u = f.1;
+      split = record { same = (glue f.3 (glue g.1 h.1)).same ∙ ap (λ z. z ++ r.2) (append_assoc f.0 (f.1 ∷ []) (g.0 ++ h.0)) };
+      test = f.4;
+      behind = f.5;
+      holds = subst (λ z. Derives (item Item.Expression) z g.0 q.0 q.1) f.6 g.2;
+      fails = h.2;
+      is = refl;
+    }))))
+
+first_of_sound : (go : Go) → Sound go → (l : Nesting) (t : Terminal) (ts : Tokens) (k : TerminalKind) → t.kind ≡ k → Yields (first_of go l t ts k) (FirstFront l (t ∷ ts))
+first_of_sound go sound l t ts kind.True is = here (t ∷ [], alone refl, Derives.truth l t is)
+first_of_sound go sound l t ts kind.False is = here (t ∷ [], alone refl, Derives.falsity l t is)
+first_of_sound go sound l t ts kind.Id is = bind (name_sound go sound l (t ∷ ts)) (λ p f. here (f.0, f.1, Derives.name_term l l f.0 p.0 f.2))
+first_of_sound go sound l t ts kind.Proof is = bind (name_sound go sound l (t ∷ ts)) (λ p f. here (f.0, f.1, Derives.name_term l l f.0 p.0 f.2))
+first_of_sound go sound l t ts kind.Open is =
+    bind (framed_sound go sound Item.Expression kind.Close l ts) (λ p f. here (t ∷ (f.0 ++ f.1 ∷ []), put refl f.3, Derives.group l f.2 f.0 p.0 t f.1 is f.4 f.5 f.6))
+first_of_sound go sound l t ts kind.If is =
+    room l (inside l) _ (λ lt. bind (cond_sound go sound t.word (inside l) ts) (λ p f. here (
+      t ∷ (f.vs ++ f.u ∷ (f.us ++ f.ws)),
+      put refl f.split,
+      subst (λ z. Derives (form (Form.Term true)) l (t ∷ (f.vs ++ f.u ∷ (f.us ++ f.ws))) z l) f.is (Derives.cond l f.k f.j p.1 f.vs f.us f.ws f.c f.x f.y t f.u is lt f.test f.behind f.holds f.fails),
+    )))
+first_of_sound go sound l t ts _ is = none
+
+first_sound : (go : Go) → Sound go → (l : Nesting) (ts : Tokens) → Yields (first_with go l ts) (FirstFront l ts)
+first_sound go sound l [] = none
+first_sound go sound l (t ∷ ts) = first_of_sound go sound l t ts t.kind refl
+
+-- ---- what follows
+
+not_called_kind : (k : TerminalKind) → same_kind k kind.Open ≡ false → same_kind k kind.Backquote ≡ false → pull k < 6
+unfolding same_kind
+not_called_kind kind.Open e f = cc
+not_called_kind kind.Backquote e f = cc
+not_called_kind kind.Iff e f = omega arith
+not_called_kind kind.Implies e f = omega arith
+not_called_kind kind.Or e f = omega arith
+not_called_kind kind.And e f = omega arith
+not_called_kind kind.Equal e f = omega arith
+not_called_kind kind.Differs e f = omega arith
+not_called_kind _ e f = omega arith
+
+after_none_of : (k : TerminalKind) (t : Terminal) (ts : Tokens) (b : Bool) → same_kind t.kind k ≡ b → (if b then Some ts else None) ≡ None → same_kind t.kind k ≡ false
+after_none_of k t ts true is e = cc
+after_none_of k t ts false is e = is
+
+after_none : (k : TerminalKind) (t : Terminal) (ts : Tokens) → after k (t ∷ ts) ≡ None → same_kind t.kind k ≡ false
+after_none k t ts e = after_none_of k t ts (same_kind t.kind k) refl e
+
+not_called : (ts : Tokens) → after kind.Open ts ≡ None → after kind.Backquote ts ≡ None → pull_of ts < 6
+not_called [] e f = omega arith
+not_called (t ∷ ts) e f = not_called_kind t.kind (after_none kind.Open t ts e) (after_none kind.Backquote t ts f)
+
+empty_ends : (ts : Tokens) (n : ℕ) → length ts ≤ zero → pull_of ts < suc n
+empty_ends [] n e = omega arith
+empty_ends (t ∷ ts) n e = absurd (omega (arith, e))
+
+-- a term, and what is read behind it
+abbrev TermFront : Nesting → Tokens → Tokens → Expr × Nesting × Tokens → Type 0
+TermFront l all ts p = (b : Bool) × (vs : Tokens) × Splits all vs p.2 × Derives (form (Form.Term b)) l vs p.0 p.1 × (pull_of p.2 < 6)
+
+call_mark_sound : {B : Type 0} (b : Bool) (l : Nesting) (f : Nesting → Option B) (Q : B → Type 0) → Yields (f (before_call b l)) Q → Yields (call_mark b l >>= f) Q
+call_mark_sound true l f Q g = room l (marked l) f (λ lt. g)
+call_mark_sound false l f Q g = g
+
+splits_shorter : {ts us vs : Tokens} → Splits ts us vs → length vs ≤ length ts
+splits_shorter {ts = ts} {us = us} {vs = vs} s = let e : length ts ≡ length (us ++ vs) = ap length s.same in omega (arith, e, length-append us vs)
+
+-- behind a token, a part is shorter than the whole
+shorter : {ts us vs rest : Tokens} {t : Terminal} (n : ℕ) → ts ≡ t ∷ us → Splits us vs rest → length ts ≤ suc n → length rest ≤ n
+shorter {ts = ts} {us = us} n e s g = let h : length ts ≡ suc (length us) = ap length e in omega (arith, g, h, splits_shorter s)
+
+abbrev CallFront : Nesting → Tokens → Tokens → Expr × Nesting × Tokens → Type 0
+CallFront l0 all us p = (vs : Tokens) × Splits all vs p.2 × Derives (form (Form.Term true)) l0 vs p.0 p.1 × ((ws : Tokens) × Splits us ws p.2)
+
+call_sound : (go : Go) → Sound go → (b : Bool) (x : Expr) (l0 l : Nesting) (all vs ts us : Tokens) → Splits all vs ts → Derives (form (Form.Term b)) l0 vs x l → Comes kind.Open ts us
+    → Yields (call_with go b x l us) (CallFront l0 all us)
+call_sound go sound b x l0 l all vs ts us s d c =
+    call_mark_sound b l _ (CallFront l0 all us) (bind (framed_sound go sound Item.Expression kind.Close (before_call b l) us) (λ p f. here (
+      vs ++ c.0 ∷ (f.0 ++ f.1 ∷ []),
+      glue s (put c.1 f.3),
+      Derives.call b l0 l f.2 vs f.0 x p.0 c.0 f.1 d c.2 f.4 f.5 f.6,
+      (f.0 ++ f.1 ∷ [], f.3),
+    )))
+
+project_sound : (b : Bool) (x : Expr) (l0 l : Nesting) (all vs ts us : Tokens) → Splits all vs ts → Derives (form (Form.Term b)) l0 vs x l → Comes kind.Backquote ts us
+    → Yields (project x l us) (CallFront l0 all us)
+project_sound b x l0 l all vs ts us s d c =
+    room l (marked l) _ (λ lt. bind (number_yields us) (λ p f. here (
+      vs ++ c.0 ∷ f.0 ∷ [],
+      glue s (put c.1 (alone f.1)),
+      subst (λ z. Derives (form (Form.Term true)) l0 (vs ++ c.0 ∷ f.0 ∷ []) (expr.Project x z) (marked l)) f.3 (Derives.project b l0 l vs x c.0 f.0 d c.2 lt f.2),
+      (f.0 ∷ [], alone f.1),
+    )))
+
+term_from_sound : (go : Go) → Sound go → (n : ℕ) (b : Bool) (x : Expr) (l0 l : Nesting) (all vs ts : Tokens) → Splits all vs ts → Derives (form (Form.Term b)) l0 vs x l → length ts ≤ n
+    → Yields (term_from go n b x l ts) (TermFront l0 all ts)
+unfolding term_from
+term_from_sound go sound zero b x l0 l all vs ts s d small = here (b, vs, s, d, empty_ends ts 5 small)
+term_from_sound go sound (suc n) b x l0 l all vs ts s d small = cases
+    (λ us a. let c = (after_yields kind.Open ts).holds us a in
+    bind (call_sound go sound b x l0 l all vs ts us s d c) (λ p f. term_from_sound go sound n true p.0 l0 p.1 all f.0 p.2 f.1 f.2 (shorter n c.1 f.3.1 small)))
+    (λ a. cases
+    (λ us e. let c = (after_yields kind.Backquote ts).holds us e in
+    bind (project_sound b x l0 l all vs ts us s d c) (λ p f. term_from_sound go sound n true p.0 l0 p.1 all f.0 p.2 f.1 f.2 (shorter n c.1 f.3.1 small)))
+    (λ e. here (b, vs, s, d, not_called ts a e)))
+
+term_sound : (go : Go) → Sound go → (l : Nesting) (ts : Tokens) → Yields (term_with go l ts) (TermFront l ts ts)
+term_sound go sound l ts =
+    bind (first_sound go sound l ts) (λ p f. weaken (λ q g. g) (term_from_sound go sound (length ts) p.1 p.0 l l ts f.0 p.2 f.1 f.2 (splits_shorter f.1)))
+
+-- ---- NOT, binders and LET
+
+reach_not : (e : Ending) → reach (Form.Operand e) ≡ reach (Form.Prefixed e)
+reach_not Plain = refl
+reach_not Bound = refl
+
+reach_whole : (e : Ending) → reach (Form.Chain connective.Iff e) ≡ 1
+reach_whole Plain = refl
+reach_whole Bound = refl
+
+whole_ends : (e : Ending) (us : Tokens) → pull_of us < reach (Form.Chain connective.Iff e) → pull_of us < 1
+whole_ends e us lt = subst (λ z. pull_of us < z) (reach_whole e) lt
+
+abbrev PrefixedFront : Nesting → Tokens → Expr × Nesting × Tokens → Type 0
+PrefixedFront l ts p = Formed (λ e. Form.Prefixed e) l ts p
+
+-- a colon and a body
+record BodyFront (bs : List Binding) (b : BinderWord) (w : Word) (l : Nesting) (ts : Tokens) (p : Expr × Nesting × Tokens) : Type 0 where
+  e : Ending
+  x : Expr
+  c : Terminal
+  us : Tokens
+  split : Splits ts (c ∷ us) p.2
+  colon : Is kind.Colon c
+  body : Derives (form (Form.Chain connective.Iff e)) l us x p.1
+  ends : pull_of p.2 < 1
+  is : expr.Binder b bs x w.pos ≡ p.0
+
+body_sound : (go : Go) → Sound go → (bs : List Binding) (b : BinderWord) (w : Word) (l : Nesting) (ts : Tokens) → Yields (body_with go bs b w l ts) (BodyFront bs b w l ts)
+body_sound go sound bs b w l ts =
+    bind (after_yields kind.Colon ts) (λ us a. bind (sound (Start.Chain connective.Iff) l us) (λ p f. here (record {
+      e = f.0;
+      x = p.0;
+      c = a.0;
+      us = f.1;
+      split = put a.1 f.2;
+      colon = a.2;
+      body = f.3;
+      ends = whole_ends f.0 p.2 f.4;
+      is = refl;
+    })))
+
+binder_made : {b : BinderWord} (l : Nesting) (t u : Terminal) (ts us vs : Tokens) → ts ≡ t ∷ us → binder_word t.kind ≡ Some b → HasRoom l → us ≡ u ∷ vs → Is kind.Open u
+    → (p : List Binding × Tokens) → Framed Item.Variable kind.Close (held l) vs p → (q : Expr × Nesting × Tokens) → BodyFront p.0 b t.word (held l) p.1 q → PrefixedFront l ts q
+binder_made {b = b} l t u ts us vs e is lt c open_is p f q g = (
+  Bound,
+  t ∷ u ∷ (f.0 ++ f.1 ∷ g.c ∷ g.us),
+  record { same = (put e (put c (glue f.3 g.split))).same ∙ ap (λ z. t ∷ u ∷ (z ++ q.2)) (append_assoc f.0 (f.1 ∷ []) (g.c ∷ g.us)) },
+  subst (λ z. Derives (form (Form.Prefixed Bound)) l (t ∷ u ∷ (f.0 ++ f.1 ∷ g.c ∷ g.us)) z q.1) g.is
+      (Derives.binder g.e l f.2 q.1 f.0 g.us p.0 g.x b t u f.1 g.c is lt open_is f.4 f.5 f.6 g.colon g.body),
+  g.ends,
+)
+
+bare_binder_made : {b : BinderWord} (l : Nesting) (t : Terminal) (ts us : Tokens) → ts ≡ t ∷ us → binder_word t.kind ≡ Some b → HasRoom l
+    → (p : List Binding × Nesting × Tokens) → Front (list Item.BareVariable) (held l) us p → (q : Expr × Nesting × Tokens) → BodyFront p.0 b t.word p.1 p.2 q → PrefixedFront l ts q
+bare_binder_made {b = b} l t ts us e is lt p f q g = (
+  Bound,
+  t ∷ (f.0 ++ g.c ∷ g.us),
+  put e (glue f.1 g.split),
+  subst (λ z. Derives (form (Form.Prefixed Bound)) l (t ∷ (f.0 ++ g.c ∷ g.us)) z q.1) g.is
+      (Derives.bare_binder g.e l p.1 q.1 f.0 g.us p.0 g.x b t g.c is lt f.2 g.colon g.body),
+  g.ends,
+)
+
+binder_sound : (go : Go) → Sound go → (b : BinderWord) (l : Nesting) (t : Terminal) (ts us : Tokens) → ts ≡ t ∷ us → binder_word t.kind ≡ Some b → Yields (binder_with go b t.word l us) (PrefixedFront l ts)
+binder_sound go sound b l t ts us e is =
+    room l (held l) _ (λ lt. cases
+    (λ vs a. let c = (after_yields kind.Open us).holds vs a in
+    bind (framed_sound go sound Item.Variable kind.Close (held l) vs) (λ p f. weaken (λ q g. binder_made l t c.0 ts us vs e is lt c.1 c.2 p f q g) (body_sound go sound p.0 b t.word (held l) p.1)))
+    (λ a. bind (list_with_sound go sound Item.BareVariable (held l) us) (λ p f. weaken (λ q g. bare_binder_made l t ts us e is lt p f q g) (body_sound go sound p.0 b t.word p.1 p.2))))
+
+let_sound : (go : Go) → Sound go → (l : Nesting) (t : Terminal) (ts us : Tokens) → ts ≡ t ∷ us → Is kind.Let t → Yields (let_with go t.word l us) (PrefixedFront l ts)
+let_sound go sound l t ts us e is =
+    room l (held l) _ (λ lt. bind (list_with_sound go sound Item.Definition (held l) us) (λ p f. bind (after_yields kind.In p.2) (λ vs a. bind (sound (Start.Chain connective.Iff) p.1 vs) (λ q g. here (
+      Bound,
+      t ∷ (f.0 ++ a.0 ∷ g.1),
+      put e (glue f.1 (put a.1 g.2)),
+      Derives.let_in g.0 l p.1 q.1 f.0 g.1 p.0 q.0 t a.0 is lt f.2 a.2 g.3,
+      whole_ends g.0 q.2 g.4,
+    )))))
+
+not_sound : (go : Go) → Sound go → (l : Nesting) (t : Terminal) (ts us : Tokens) → ts ≡ t ∷ us → Is kind.Not t → Yields (not_with go t.word l us) (PrefixedFront l ts)
+not_sound go sound l t ts us e is =
+    room l (marked l) _ (λ lt. bind (sound Start.Operand (marked l) us) (λ p f. here (
+      f.0,
+      t ∷ f.1,
+      put e f.2,
+      Derives.not f.0 l p.1 f.1 p.0 t is lt f.3,
+      subst (λ z. pull_of p.2 < z) (reach_not f.0) f.4,
+    )))
+
+-- what a prefix says of its terminal
+abbrev IsPrefix : Terminal → Prefix → Type 0
+IsPrefix t Prefix.Negation = Is kind.Not t
+IsPrefix t (Prefix.Binding_ b) = binder_word t.kind ≡ Some b
+IsPrefix t Prefix.Local = Is kind.Let t
+
+is_prefix_of_binder : (t : Terminal) (o : Option BinderWord) → binder_word t.kind ≡ o → (p : Prefix) → prefix_of_binder o ≡ Some p → IsPrefix t p
+is_prefix_of_binder t (Some b) is p e = let same : Prefix.Binding_ b ≡ p = cc in subst (λ z. IsPrefix t z) same is
+is_prefix_of_binder t None is p e = cc
+
+is_prefix_kind : (t : Terminal) (k : TerminalKind) → t.kind ≡ k → (p : Prefix) → prefix k ≡ Some p → IsPrefix t p
+is_prefix_kind t kind.Not is p e = let same : Prefix.Negation ≡ p = cc in subst (λ z. IsPrefix t z) same is
+is_prefix_kind t kind.Let is p e = let same : Prefix.Local ≡ p = cc in subst (λ z. IsPrefix t z) same is
+is_prefix_kind t kind.Forall is p e = is_prefix_of_binder t (Some binders.Forall) (ap binder_word is) p e
+is_prefix_kind t kind.Exists is p e = is_prefix_of_binder t (Some binders.Exists) (ap binder_word is) p e
+is_prefix_kind t kind.Lambda is p e = is_prefix_of_binder t (Some binders.Lambda) (ap binder_word is) p e
+is_prefix_kind t _ is p e = cc
+
+prefixed_of_sound : (go : Go) → Sound go → (l : Nesting) (t : Terminal) (ts us : Tokens) → ts ≡ t ∷ us → (p : Prefix) → IsPrefix t p → Yields (prefixed_with go l p t.word us) (PrefixedFront l ts)
+prefixed_of_sound go sound l t ts us e Prefix.Negation is = not_sound go sound l t ts us e is
+prefixed_of_sound go sound l t ts us e (Prefix.Binding_ b) is = binder_sound go sound b l t ts us e is
+prefixed_of_sound go sound l t ts us e Prefix.Local is = let_sound go sound l t ts us e is
+
+prefixed_sound : (go : Go) → Sound go → (l : Nesting) (t : Terminal) (ts us : Tokens) → ts ≡ t ∷ us → (p : Prefix) → prefix t.kind ≡ Some p → Yields (prefixed_with go l p t.word us) (PrefixedFront l ts)
+prefixed_sound go sound l t ts us e p is = prefixed_of_sound go sound l t ts us e p (is_prefix_kind t t.kind refl p is)
+
+-- ---- operands and chains
+
+abbrev OperandFront : Nesting → Tokens → Expr × Nesting × Tokens → Type 0
+OperandFront l ts p = Formed (λ e. Form.Operand e) l ts p
+
+not_compared_kind : (k : TerminalKind) → comparison k ≡ None → pull k < 6 → pull k < 5
+not_compared_kind kind.Equal e f = cc
+not_compared_kind kind.Differs e f = cc
+not_compared_kind kind.Iff e f = omega arith
+not_compared_kind kind.Implies e f = omega arith
+not_compared_kind kind.Or e f = omega arith
+not_compared_kind kind.And e f = omega arith
+not_compared_kind kind.Open e f = absurd (omega (arith, f))
+not_compared_kind kind.Backquote e f = absurd (omega (arith, f))
+not_compared_kind _ e f = omega arith
+
+abbrev pair : {A B : Type 0} → A → B → A × B
+pair a b = (a, b)
+
+compares_none : (ts : Tokens) (t : Terminal) (o : Option InfixWord) → comparison t.kind ≡ o → (o >>= λ w. Some (pair w ts)) ≡ None → comparison t.kind ≡ None
+compares_none ts t None is e = is
+compares_none ts t (Some w) is e = cc
+
+not_compared : (ts : Tokens) → compares ts ≡ None → pull_of ts < 6 → pull_of ts < 5
+not_compared [] e f = omega arith
+not_compared (t ∷ ts) e f = not_compared_kind t.kind (compares_none ts t (comparison t.kind) refl e) f
+
+as_operand : (e : Ending) (us : Tokens) → pull_of us < reach (Form.Prefixed e) → pull_of us < reach (Form.Operand e)
+as_operand Plain us lt = lt
+as_operand Bound us lt = lt
+
+compared_sound : (go : Go) → Sound go → (n : ℕ) (x : Expr) (l0 l : Nesting) (all vs ts : Tokens) → Splits all vs ts → Derives (form Form.Comparisons) l0 vs x l → pull_of ts < 6 → length ts ≤ n
+    → Yields (compared_from go n x l ts) (OperandFront l0 all)
+unfolding compared_from
+compared_sound go sound zero x l0 l all vs ts s d lt small = here (Plain, vs, s, Derives.compared l0 l vs x d, empty_ends ts 4 small)
+compared_sound go sound (suc n) x l0 l all vs ts s d lt small = cases
+    (λ p a. let c = (compares_yields ts).holds p a in
+    room l (marked l) _ (λ has. begins_cases p.1 _ _
+    (λ t us q e is. bind (prefixed_sound go sound (marked l) t p.1 us e q is) (λ r f. here (
+      f.0,
+      vs ++ c.0 ∷ f.1,
+      glue s (put c.1 f.2),
+      Derives.compared_prefixed f.0 l0 l r.1 vs f.1 x r.0 p.0 c.0 d c.2 has f.3,
+      as_operand f.0 r.2 f.4,
+    )))
+    (bind (term_sound go sound (marked l) p.1) (λ r f. compared_sound go sound n (expr.Infix p.0 x r.0) l0 r.1 all (vs ++ c.0 ∷ f.1) r.2 (glue s (put c.1 f.2))
+    (Derives.compares f.0 l0 l r.1 vs f.1 x r.0 p.0 c.0 d c.2 has f.3) f.4 (shorter n c.1 f.2 small)))))
+    (λ a. here (Plain, vs, s, Derives.compared l0 l vs x d, not_compared ts a lt))
+
+operand_sound : (go : Go) → Sound go → (l : Nesting) (ts : Tokens) → Yields (operand_with go l ts) (OperandFront l ts)
+operand_sound go sound l ts = begins_cases ts _ _
+    (λ t us q e is. weaken (λ r f. (f.0, f.1, f.2, Derives.prefixed f.0 l r.1 f.1 r.0 f.3, as_operand f.0 r.2 f.4)) (prefixed_sound go sound l t ts us e q is))
+    (bind (term_sound go sound l ts) (λ p f. compared_sound go sound (length ts) p.0 l p.1 ts f.1 p.2 f.2 (Derives.term f.0 l p.1 f.1 p.0 f.3) f.4 (splits_shorter f.2)))
+
+reach_tighter : (c : Connective) → reach (tighter c Plain) ≡ suc (power c)
+reach_tighter connective.Iff = refl
+reach_tighter connective.Implies = refl
+reach_tighter connective.Or = refl
+reach_tighter connective.And = refl
+
+reach_bound : (c : Connective) → reach (tighter c Bound) ≡ 1
+reach_bound connective.Iff = refl
+reach_bound connective.Implies = refl
+reach_bound connective.Or = refl
+reach_bound connective.And = refl
+
+pull_sign : (c : Connective) → 1 ≤ pull (sign c)
+pull_sign connective.Iff = omega arith
+pull_sign connective.Implies = omega arith
+pull_sign connective.Or = omega arith
+pull_sign connective.And = omega arith
+
+-- no connective follows a binder or a LET
+bound_stops : (c : Connective) (us vs : Tokens) (t : Terminal) → pull_of us < reach (tighter c Bound) → us ≡ t ∷ vs → Is (sign c) t → ⊥
+bound_stops c us vs t lt e is =
+    let here_is : pull_of us ≡ pull (sign c) = ap pull_of e ∙ ap pull is in
+    omega (arith, subst (λ z. pull_of us < z) (reach_bound c) lt, here_is, pull_sign c)
+
+not_signed_kind : (c : Connective) (k : TerminalKind) → same_kind k (sign c) ≡ false → pull k < suc (power c) → pull k < power c
+unfolding same_kind
+not_signed_kind connective.Iff kind.Iff e f = cc
+not_signed_kind connective.Implies kind.Implies e f = cc
+not_signed_kind connective.Or kind.Or e f = cc
+not_signed_kind connective.And kind.And e f = cc
+not_signed_kind connective.Iff kind.Implies e f = absurd (omega (arith, f))
+not_signed_kind connective.Iff kind.Or e f = absurd (omega (arith, f))
+not_signed_kind connective.Iff kind.And e f = absurd (omega (arith, f))
+not_signed_kind connective.Implies kind.Iff e f = omega arith
+not_signed_kind connective.Implies kind.Or e f = absurd (omega (arith, f))
+not_signed_kind connective.Implies kind.And e f = absurd (omega (arith, f))
+not_signed_kind connective.Or kind.Iff e f = omega arith
+not_signed_kind connective.Or kind.Implies e f = omega arith
+not_signed_kind connective.Or kind.And e f = absurd (omega (arith, f))
+not_signed_kind connective.And kind.Iff e f = omega arith
+not_signed_kind connective.And kind.Implies e f = omega arith
+not_signed_kind connective.And kind.Or e f = omega arith
+not_signed_kind connective.Iff _ e f = omega (arith, f)
+not_signed_kind connective.Implies _ e f = omega (arith, f)
+not_signed_kind connective.Or _ e f = omega (arith, f)
+not_signed_kind connective.And _ e f = omega (arith, f)
+
+not_signed : (c : Connective) (ts : Tokens) → after (sign c) ts ≡ None → pull_of ts < suc (power c) → pull_of ts < power c
+not_signed connective.Iff [] e f = omega arith
+not_signed connective.Implies [] e f = omega arith
+not_signed connective.Or [] e f = omega arith
+not_signed connective.And [] e f = omega arith
+not_signed c (t ∷ ts) e f = not_signed_kind c t.kind (after_none (sign c) t ts e) f
+
+abbrev ChainFront : Connective → Nesting → Tokens → Expr × Nesting × Tokens → Type 0
+ChainFront c l ts p = Formed (λ e. Form.Chain c e) l ts p
+
+alone_ends : (c : Connective) (e : Ending) (ts : Tokens) → after (sign c) ts ≡ None → pull_of ts < reach (tighter c e) → pull_of ts < reach (Form.Chain c e)
+alone_ends c Plain ts a lt = not_signed c ts a (subst (λ z. pull_of ts < z) (reach_tighter c) lt)
+alone_ends c Bound ts a lt = subst (λ z. pull_of ts < z) (reach_bound c) lt
+
+joined_made : (c : Connective) (l : Nesting) (ts : Tokens) (p : Expr × Nesting × Tokens) → HasRoom p.1 → (e : Ending) (vs : Tokens) → Splits ts vs p.2 → Derives (form (tighter c e)) l vs p.0 p.1 → pull_of p.2 < reach (tighter c e)
+    → (us : Tokens) → Comes (sign c) p.2 us → (q : Expr × Nesting × Tokens) → ChainFront c (marked p.1) us q → ChainFront c l ts (expr.Infix (operator c) p.0 q.0, q.1, q.2)
+joined_made c l ts p has Plain vs s d lt us a q g = (
+  g.0,
+  vs ++ a.0 ∷ g.1,
+  glue s (put a.1 g.2),
+  Derives.joined c g.0 l p.1 q.1 vs g.1 p.0 q.0 a.0 d a.2 has g.3,
+  g.4,
+)
+joined_made c l ts p has Bound vs s d lt us a q g = absurd (bound_stops c p.2 us a.0 lt a.1 a.2)
+
+chain_on_sound : (go : Go) → Sound go → (c : Connective) (l : Nesting) (ts : Tokens) (r : Read Expr) → Yields r (Formed (λ e. tighter c e) l ts) → Yields (chain_on go c r) (ChainFront c l ts)
+chain_on_sound go sound c l ts r f = bind f (λ p f. cases
+    (λ us a. room p.1 (marked p.1) _ (λ has. bind (sound (Start.Chain c) (marked p.1) us) (λ q g. here (joined_made c l ts p has f.0 f.1 f.2 f.3 f.4 us ((after_yields (sign c) p.2).holds us a) q g))))
+    (λ a. here (f.0, f.1, f.2, Derives.alone c f.0 l p.1 f.1 p.0 f.3, alone_ends c f.0 p.2 a f.4)))
+
+between_sound : (go : Go) → Sound go → (c : Connective) (l : Nesting) (ts : Tokens) → Yields (between_with go c l ts) (Formed (λ e. tighter c e) l ts)
+between_sound go sound connective.And l ts = operand_sound go sound l ts
+between_sound go sound connective.Or l ts = chain_on_sound go sound connective.And l ts (operand_with go l ts) (operand_sound go sound l ts)
+between_sound go sound connective.Implies l ts =
+    chain_on_sound go sound connective.Or l ts (chain_on go connective.And (operand_with go l ts)) (chain_on_sound go sound connective.And l ts (operand_with go l ts) (operand_sound go sound l ts))
+between_sound go sound connective.Iff l ts =
+    chain_on_sound go sound connective.Implies l ts (chain_on go connective.Or (chain_on go connective.And (operand_with go l ts)))
+    (chain_on_sound go sound connective.Or l ts (chain_on go connective.And (operand_with go l ts)) (chain_on_sound go sound connective.And l ts (operand_with go l ts) (operand_sound go sound l ts)))
+
+chain_sound : (go : Go) → Sound go → (c : Connective) (l : Nesting) (ts : Tokens) → Yields (chain_with go c l ts) (ChainFront c l ts)
+chain_sound go sound c l ts = chain_on_sound go sound c l ts (between_with go c l ts) (between_sound go sound c l ts)
+
+-- ---- the end of an IF
+
+otherwise_of_sound : (go : Go) → Sound go → (l : Nesting) (t : Terminal) (ts : Tokens) (k : TerminalKind) → t.kind ≡ k → Yields (otherwise_of go l t ts k) (Front (form Form.Otherwise) l (t ∷ ts))
+otherwise_of_sound go sound l t ts kind.Else is =
+    bind (sound (Start.ItemStart Item.Expression) (cleared l) ts) (λ p f. bind (after_yields kind.EndIf p.2) (λ us a. here (t ∷ (f.0 ++ a.0 ∷ []), put refl (glue f.1 (alone a.1)), Derives.else_ l p.1 f.0 p.0 t a.0 is f.2 a.2)))
+otherwise_of_sound go sound l t ts kind.Elsif is =
+    room (cleared l) (held (cleared l)) _ (λ lt. weaken (λ p f. (
+      t ∷ (f.vs ++ f.u ∷ (f.us ++ f.ws)),
+      put refl f.split,
+      subst (λ z. Derives (form Form.Otherwise) l (t ∷ (f.vs ++ f.u ∷ (f.us ++ f.ws))) z p.1) f.is (Derives.elsif l f.k f.j p.1 f.vs f.us f.ws f.c f.x f.y t f.u is lt f.test f.behind f.holds f.fails),
+    )) (cond_sound go sound t.word (held (cleared l)) ts))
+otherwise_of_sound go sound l t ts _ is = none
+
+otherwise_sound : (go : Go) → Sound go → (l : Nesting) (ts : Tokens) → Yields (otherwise_with go l ts) (Front (form Form.Otherwise) l ts)
+otherwise_sound go sound l [] = none
+otherwise_sound go sound l (t ∷ ts) = otherwise_of_sound go sound l t ts t.kind refl
+
+-- ---- types
+
+abbrev TypeFront : Nesting → Tokens → TypeExpr × Nesting × Tokens → Type 0
+TypeFront l ts p = Front type_ l ts p
+
+-- components between brackets, of which a tuple has two or more
+tuple_sound : (l k : Nesting) (t : Terminal) (ts vs : Tokens) (bs : List Binding) (rest : Tokens) → Splits ts vs rest → Is kind.OpenBracket t → HasRoom l → Derives (list Item.Component) (inside l) vs bs k
+    → Yields (tuple_type l t.word bs rest) (TypeFront l (t ∷ ts))
+tuple_sound l k t ts vs [] rest s is lt d = none
+tuple_sound l k t ts vs (b ∷ []) rest s is lt d = none
+tuple_sound l k t ts vs (b ∷ c ∷ bs) rest s is lt d =
+    bind (after_yields kind.CloseBracket rest) (λ us a. here (t ∷ (vs ++ a.0 ∷ []), put refl (glue s (alone a.1)), Derives.tuple_type l k vs b c bs t a.0 is lt d a.2))
+
+fun_sound : (go : Go) → Sound go → (l k : Nesting) (t u : Terminal) (ts vs : Tokens) (bs : List Binding) (rest us : Tokens) → Splits ts vs rest → Is kind.OpenBracket t → HasRoom l → Derives (list Item.Component) (inside l) vs bs k
+    → rest ≡ u ∷ us → Is kind.Arrow u → Yields (fun_type_with go l t.word bs k us) (TypeFront l (t ∷ ts))
+fun_sound go sound l k t u ts vs bs rest us s is lt d e arrow =
+    bind (sound Start.TypeStart k us) (λ p f. bind (after_yields kind.CloseBracket p.2) (λ ws a. here (
+      t ∷ (vs ++ u ∷ (f.0 ++ a.0 ∷ [])),
+      put refl (glue s (put e (glue f.1 (alone a.1)))),
+      Derives.fun_type l k p.1 vs f.0 bs p.0 t u a.0 is lt d arrow f.2 a.2,
+    )))
+
+-- an identifier, and a type behind a colon
+record TypedFront (l : Nesting) (ts : Tokens) (p : Word × TypeExpr × Nesting × Tokens) : Type 0 where
+  t : Terminal
+  u : Terminal
+  us : Tokens
+  vs : Tokens
+  e : ts ≡ t ∷ u ∷ us
+  split : Splits us vs p.3
+  id : IsId t
+  colon : Is kind.Colon u
+  type : Derives type_ l vs p.1 p.2
+  is : t.word ≡ p.0
+
+typed_sound : (go : Go) → Sound go → (l : Nesting) (ts : Tokens) → Yields (typed_with go l ts) (TypedFront l ts)
+typed_sound go sound l ts =
+    id_bind ts _ (λ t us e is. bind (after_yields kind.Colon us) (λ vs a. bind (sound Start.TypeStart l vs) (λ q f. here (record {
+      t = t;
+      u = a.0;
+      us = vs;
+      vs = f.0;
+      e = e ∙ ap (λ z. t ∷ z) a.1;
+      split = f.1;
+      id = is;
+      colon = a.2;
+      type = f.2;
+      is = refl;
+    }))))
+
+sub_sound : (go : Go) → Sound go → (l : Nesting) (t : Terminal) (ts : Tokens) → Is kind.OpenBrace t → Yields (sub_type_with go l t.word ts) (TypeFront l (t ∷ ts))
+sub_sound go sound l t ts is =
+    room l (inside l) _ (λ lt. bind (typed_sound go sound (inside l) ts) (λ p f. bind (after_yields kind.Bar p.3) (λ us a. bind (sound (Start.ItemStart Item.Expression) p.2 us) (λ q g. bind (after_yields kind.CloseBrace q.2) (λ vs b. here (
+      t ∷ f.t ∷ f.u ∷ (f.vs ++ a.0 ∷ (g.0 ++ b.0 ∷ [])),
+      put refl (put f.e (put refl (glue f.split (put a.1 (glue g.1 (alone b.1)))))),
+      subst (λ z. Derives type_ l (t ∷ f.t ∷ f.u ∷ (f.vs ++ a.0 ∷ (g.0 ++ b.0 ∷ []))) (type_expr.SubType z p.1 q.0 t.word.pos) l) f.is
+          (Derives.sub_type l p.2 q.1 f.vs g.0 p.1 q.0 t f.t f.u a.0 b.0 is lt f.id f.colon f.type a.2 g.2 b.2),
+    ))))))
+
+type_of_sound : (go : Go) → Sound go → (l : Nesting) (t : Terminal) (ts : Tokens) (k : TerminalKind) → t.kind ≡ k → Yields (type_of go l t ts k) (TypeFront l (t ∷ ts))
+type_of_sound go sound l t ts kind.Id is = bind (name_sound go sound l (t ∷ ts)) (λ p f. here (f.0, f.1, Derives.name_type l l f.0 p.0 f.2))
+type_of_sound go sound l t ts kind.Proof is = bind (name_sound go sound l (t ∷ ts)) (λ p f. here (f.0, f.1, Derives.name_type l l f.0 p.0 f.2))
+type_of_sound go sound l t ts kind.Open is =
+    room l (inside l) _ (λ lt. bind (sound (Start.ItemStart Item.Expression) (inside l) ts) (λ p f. bind (after_yields kind.Close p.2) (λ us a. here (
+      t ∷ (f.0 ++ a.0 ∷ []),
+      put refl (glue f.1 (alone a.1)),
+      Derives.pred_type l p.1 f.0 p.0 t a.0 is lt f.2 a.2,
+    ))))
+type_of_sound go sound l t ts kind.OpenBrace is = sub_sound go sound l t ts is
+type_of_sound go sound l t ts kind.OpenBracket is =
+    room l (inside l) _ (λ lt. bind (list_with_sound go sound Item.Component (inside l) ts) (λ p f. cases
+    (λ us a. let c = (after_yields kind.Arrow p.2).holds us a in fun_sound go sound l p.1 t c.0 ts f.0 p.0 p.2 us f.1 is lt f.2 c.1 c.2)
+    (λ a. tuple_sound l p.1 t ts f.0 p.0 p.2 f.1 is lt f.2)))
+type_of_sound go sound l t ts _ is = none
+
+type_sound : (go : Go) → Sound go → (l : Nesting) (ts : Tokens) → Yields (type_with go l ts) (TypeFront l ts)
+type_sound go sound l [] = none
+type_sound go sound l (t ∷ ts) = type_of_sound go sound l t ts t.kind refl
+
+-- ---- items
+
+abbrev ItemFront : (i : Item) → Nesting → Tokens → ItemTree i × Nesting × Tokens → Type 0
+ItemFront i l ts p = Front (item i) l ts p
+
+head_same : (t u : Terminal) (ts us : Tokens) → t ∷ ts ≡ u ∷ us → t ≡ u
+head_same t u ts us e = cc
+
+headed : (t u : Terminal) (ts us vs rest : Tokens) → Splits (t ∷ ts) vs rest → vs ≡ u ∷ us → vs ≡ t ∷ us
+headed t u ts us vs rest s e = let same : t ∷ ts ≡ u ∷ (us ++ rest) = s.same ∙ ap (λ z. z ++ rest) e in e ∙ ap (λ z. z ∷ us) (sym (head_same t u ts (us ++ rest) same))
+
+-- what is read begins with the first token
+abbrev TypeHeaded : Nesting → Terminal → Tokens → TypeExpr × Nesting × Tokens → Type 0
+TypeHeaded l t ts p = (vs : Tokens) × Splits (t ∷ ts) (t ∷ vs) p.2 × Derives type_ l (t ∷ vs) p.0 p.1
+
+type_headed : (go : Go) → Sound go → (l : Nesting) (t : Terminal) (ts : Tokens) → Yields (type_with go l (t ∷ ts)) (TypeHeaded l t ts)
+type_headed go sound l t ts = weaken (λ p f.
+    let n = nonempty type_ l f.0 p.0 p.1 f.2 in
+    let e = headed t n.0 ts n.1 f.0 p.2 f.1 n.2 in
+    (n.1, subst (λ z. Splits (t ∷ ts) z p.2) e f.1, subst (λ z. Derives type_ l z p.0 p.1) e f.2)) (type_sound go sound l (t ∷ ts))
+
+expression_sound : (go : Go) → Sound go → (l : Nesting) (ts : Tokens) → Yields (expression_with go l ts) (ChainFront connective.Iff l ts)
+expression_sound go sound l ts = chain_sound go sound connective.Iff l ts
+
+parameter_of_sound : (go : Go) → Sound go → (l : Nesting) (t : Terminal) (ts : Tokens) (b : Bool) → begins_type t.kind ≡ b → Yields (parameter_of go l (t ∷ ts) b) (ItemFront Item.Parameter l (t ∷ ts))
+parameter_of_sound go sound l t ts true is = bind (type_headed go sound l t ts) (λ p f. here (t ∷ f.0, f.1, Derives.type_actual l p.1 f.0 p.0 t is f.2))
+parameter_of_sound go sound l t ts false is = bind (expression_sound go sound l (t ∷ ts)) (λ p f. here (f.1, f.2, Derives.expr_actual f.0 l p.1 f.1 p.0 f.3))
+
+parameter_sound : (go : Go) → Sound go → (l : Nesting) (ts : Tokens) → Yields (parameter_with go l ts) (ItemFront Item.Parameter l ts)
+parameter_sound go sound l [] = none
+parameter_sound go sound l (t ∷ ts) = parameter_of_sound go sound l t ts (begins_type t.kind) refl
+
+component_sound : (go : Go) → Sound go → (l : Nesting) (ts : Tokens) → Yields (component_with go l ts) (ItemFront Item.Component l ts)
+component_sound go sound l [] = none
+component_sound go sound l (t ∷ ts) = cases
+    (λ p a. let c = (labels_yields (t ∷ ts)).holds p a in
+    bind (sound Start.TypeStart l p.1) (λ q f. here (
+      c.0 ∷ c.1 ∷ f.0,
+      put c.2 (put refl f.1),
+      subst (λ z. Derives (item Item.Component) l (c.0 ∷ c.1 ∷ f.0) (typed z q.0) q.1) c.5 (Derives.named_component l q.1 f.0 q.0 c.0 c.1 c.3 c.4 f.2),
+    )))
+    (λ a. bind (type_headed go sound l t ts) (λ q f. here (t ∷ f.0, f.1, Derives.component l q.1 f.0 q.0 t f.2)))
+
+variable_sound : (go : Go) → Sound go → (l : Nesting) (ts : Tokens) → Yields (variable_with go l ts) (ItemFront Item.Variable l ts)
+variable_sound go sound l ts = id_bind ts _ (λ t us e is. cases
+    (λ vs a. let c = (after_yields kind.Colon us).holds vs a in
+    bind (sound Start.TypeStart l vs) (λ q f. here (t ∷ c.0 ∷ f.0, put e (put c.1 f.1), Derives.typed_variable l q.1 f.0 q.0 t c.0 is c.2 f.2)))
+    (λ a. here (t ∷ [], alone e, Derives.untyped_variable l t is)))
+
+definition_sound : (go : Go) → Sound go → (l : Nesting) (ts : Tokens) → Yields (definition_with go l ts) (ItemFront Item.Definition l ts)
+definition_sound go sound l ts = id_bind ts _ (λ t us e is. cases
+    (λ vs a. let c = (after_yields kind.Colon us).holds vs a in
+    bind (sound Start.TypeStart l vs) (λ p f. bind (after_yields kind.Equal p.2) (λ ws b. bind (sound (Start.Chain connective.Iff) p.1 ws) (λ q g. here (
+      t ∷ c.0 ∷ (f.0 ++ b.0 ∷ g.1),
+      put e (put c.1 (glue f.1 (put b.1 g.2))),
+      Derives.typed_part g.0 l p.1 q.1 f.0 g.1 p.0 q.0 t c.0 b.0 is c.2 f.2 b.2 g.3,
+    )))))
+    (λ a. bind (after_yields kind.Equal us) (λ ws b. bind (sound (Start.Chain connective.Iff) l ws) (λ q g. here (
+      t ∷ b.0 ∷ g.1,
+      put e (put b.1 g.2),
+      Derives.untyped_part g.0 l q.1 g.1 q.0 t b.0 is b.2 g.3,
+    )))))
+
+item_sound : (go : Go) → Sound go → (i : Item) (l : Nesting) (ts : Tokens) → Yields (item_with go i l ts) (ItemFront i l ts)
+item_sound go sound Item.Expression l ts = weaken (λ p f. (f.1, f.2, Derives.expression f.0 l p.1 f.1 p.0 f.3)) (expression_sound go sound l ts)
+item_sound go sound Item.Parameter l ts = parameter_sound go sound l ts
+item_sound go sound Item.Component l ts = component_sound go sound l ts
+item_sound go sound Item.Variable l ts = variable_sound go sound l ts
+item_sound go sound Item.BareVariable l ts = id_bind ts _ (λ t us e is. here (t ∷ [], alone e, Derives.bare_variable l t is))
+item_sound go sound Item.Definition l ts = definition_sound go sound l ts
+
+-- ---- the whole
+
+step_sound : (go : Go) → Sound go → Sound (step go)
+step_sound go sound (Start.Chain c) l ts = chain_sound go sound c l ts
+step_sound go sound Start.Operand l ts = operand_sound go sound l ts
+step_sound go sound Start.Otherwise l ts = otherwise_sound go sound l ts
+step_sound go sound Start.TypeStart l ts = type_sound go sound l ts
+step_sound go sound (Start.ItemStart i) l ts = item_sound go sound i l ts
+
+-- what is read is in the grammar
+pub reader_sound : (a : ℕ) → Sound (reader a)
+unfolding reader
+reader_sound zero s l ts = none
+reader_sound (suc a) s l ts = step_sound (reader a) (reader_sound a) s l ts

@@ -1,0 +1,82 @@
+-- Small lists of tokens with their trees.
+use Rattle.std.proofs.Common.{◌≡◌, ℕ, true, [], ◌∷◌, ◌++◌, Some, None, refl}
+use Rattle.pvs_base.specs.declared.place.Pos.{Pos}
+use Rattle.pvs_parser.specs.declared.terminal.Terminal.{Terminal}
+use Rattle.pvs_parser.specs.declared.terminal.TerminalKind.{TerminalKind}
+use Rattle.pvs_parser.specs.declared.terminal.TerminalKind.TheVariants as kind
+use Rattle.pvs_syntax.specs.declared.word.Word.{Word}
+use Rattle.pvs_syntax.specs.declared.expression.BinderWord.TheVariants as binders
+use Rattle.pvs_syntax.specs.declared.expression.Expr.{Expr}
+use Rattle.pvs_syntax.specs.declared.expression.Expr.TheVariants as expr
+use Rattle.pvs_syntax.specs.declared.expression.InfixWord.TheVariants as words
+use Rattle.pvs_parser.specs.Terminals.{same_kind}
+use Rattle.pvs_parser.specs.Language.{Tokens, named, untyped}
+use Rattle.pvs_parser.specs.Descent.{expression, reader, list_from, term_from, compared_from}
+
+abbrev word : ℕ → Word
+word n = record { start = n; end = n; pos = record { line = 1; col = 1 } }
+
+-- a terminal, and an identifier with a number
+abbrev t : TerminalKind → Terminal
+t k = record { kind = k; word = word 0 }
+
+abbrev i : ℕ → Terminal
+i n = record { kind = kind.Id; word = word n }
+
+abbrev x : ℕ → Expr
+x n = expr.NameTerm (named (word n))
+
+abbrev no : Expr → Expr
+no a = expr.Not a (word 0).pos
+
+-- a = NOT b = c
+not_reaches_over_equality : expression (i 1 ∷ t kind.Equal ∷ t kind.Not ∷ i 2 ∷ t kind.Equal ∷ i 3 ∷ []) ≡ Some (expr.Infix words.Equal (x 1) (no (expr.Infix words.Equal (x 2) (x 3))))
+unfolding reader list_from term_from compared_from same_kind
+not_reaches_over_equality = refl
+
+-- a = NOT b AND c
+not_stops_at_and : expression (i 1 ∷ t kind.Equal ∷ t kind.Not ∷ i 2 ∷ t kind.And ∷ i 3 ∷ []) ≡ Some (expr.Infix words.And (expr.Infix words.Equal (x 1) (no (x 2))) (x 3))
+unfolding reader list_from term_from compared_from same_kind
+not_stops_at_and = refl
+
+-- a = b /= c
+equality_goes_left : expression (i 1 ∷ t kind.Equal ∷ i 2 ∷ t kind.Differs ∷ i 3 ∷ []) ≡ Some (expr.Infix words.Differs (expr.Infix words.Equal (x 1) (x 2)) (x 3))
+unfolding reader list_from term_from compared_from same_kind
+equality_goes_left = refl
+
+-- a IMPLIES b IMPLIES c OR d
+implies_goes_right : expression (i 1 ∷ t kind.Implies ∷ i 2 ∷ t kind.Implies ∷ i 3 ∷ t kind.Or ∷ i 4 ∷ []) ≡ Some (expr.Infix words.Implies (x 1) (expr.Infix words.Implies (x 2) (expr.Infix words.Or (x 3) (x 4))))
+unfolding reader list_from term_from compared_from same_kind
+implies_goes_right = refl
+
+-- a AND FORALL b, c: d IFF a
+binder_reaches : expression (i 1 ∷ t kind.And ∷ t kind.Forall ∷ i 2 ∷ t kind.Comma ∷ i 3 ∷ t kind.Colon ∷ i 4 ∷ t kind.Iff ∷ i 1 ∷ [])
+    ≡ Some (expr.Infix words.And (x 1) (expr.Binder binders.Forall (untyped (word 2) ∷ untyped (word 3) ∷ []) (expr.Infix words.Iff (x 4) (x 1)) (word 0).pos))
+unfolding reader list_from term_from compared_from same_kind
+binder_reaches = refl
+
+-- f(a, b)`1(c)
+calls_and_projections : expression (i 1 ∷ t kind.Open ∷ i 2 ∷ t kind.Comma ∷ i 3 ∷ t kind.Close ∷ t kind.Backquote ∷ t kind.Number ∷ t kind.Open ∷ i 4 ∷ t kind.Close ∷ [])
+    ≡ Some (expr.Apply (expr.Project (expr.Apply (x 1) (x 2 ∷ x 3 ∷ [])) (word 0)) (x 4 ∷ []))
+unfolding reader list_from term_from compared_from same_kind
+calls_and_projections = refl
+
+-- (a)   (a, b)
+parentheses : expression (t kind.Open ∷ i 1 ∷ t kind.Close ∷ []) ≡ Some (expr.Paren (x 1) (word 0).pos)
+unfolding reader list_from term_from compared_from same_kind
+parentheses = refl
+
+tuple : expression (t kind.Open ∷ i 1 ∷ t kind.Comma ∷ i 2 ∷ t kind.Close ∷ []) ≡ Some (expr.TupleTerm (x 1 ∷ x 2 ∷ []) (word 0).pos)
+unfolding reader list_from term_from compared_from same_kind
+tuple = refl
+
+-- IF a THEN b ELSIF c THEN d ELSE a ENDIF
+elsif : expression (t kind.If ∷ i 1 ∷ t kind.Then ∷ i 2 ∷ t kind.Elsif ∷ i 3 ∷ t kind.Then ∷ i 4 ∷ t kind.Else ∷ i 1 ∷ t kind.EndIf ∷ [])
+    ≡ Some (expr.Cond (x 1) (x 2) (expr.Cond (x 3) (x 4) (x 1) (word 0).pos) (word 0).pos)
+unfolding reader list_from term_from compared_from same_kind
+elsif = refl
+
+-- ()
+empty_parentheses : expression (t kind.Open ∷ t kind.Close ∷ []) ≡ None
+unfolding reader list_from term_from compared_from same_kind
+empty_parentheses = refl
