@@ -1,11 +1,19 @@
--- Reading expressions and types from left to right. None: the tokens do not begin so, or nest too deep.
-use Rattle.std.specs.Prelude.{◌≡◌, ℕ, zero, suc, ◌+◌, nat_lt, Bool, true, false, if◌then◌else◌, List, [], ◌∷◌, ◌++◌, length, Option, Some, None}
+-- Reading expressions and types from left to right. Where the tokens do not begin so, or nest too deep, reading stops.
+use Rattle.std.specs.Prelude.{◌≡◌, ℕ, zero, suc, ◌+◌, ◌==◌, nat_lt, Bool, true, false, if◌then◌else◌, List, [], ◌∷◌, ◌++◌, length, Option, Some, None, Result, Ok, Err, ⊤}
+use Rattle.pvs_parser.specs.declared.failure.Failure.{Failure}
+use Rattle.pvs_parser.specs.declared.failure.Failure.TheVariants as failure
+use Rattle.pvs_parser.specs.declared.failure.Reason.TheVariants as reason
+use Rattle.pvs_parser.specs.declared.failure.Stop.{Stop}
 use Rattle.pvs_parser.specs.declared.nesting.Nesting.{Nesting}
+use Rattle.pvs_parser.specs.declared.start.Start.{Start}
+use Rattle.pvs_parser.specs.declared.start.Start.TheVariants as start
 use Rattle.pvs_parser.specs.declared.terminal.Connective.{Connective}
 use Rattle.pvs_parser.specs.declared.terminal.Connective.TheVariants as connective
 use Rattle.pvs_parser.specs.declared.terminal.Terminal.{Terminal}
 use Rattle.pvs_parser.specs.declared.terminal.TerminalKind.{TerminalKind}
 use Rattle.pvs_parser.specs.declared.terminal.TerminalKind.TheVariants as kind
+use Rattle.pvs_parser.specs.declared.terminal.Prefix.{Prefix}
+use Rattle.pvs_parser.specs.declared.terminal.Prefix.TheVariants as prefixes
 use Rattle.pvs_syntax.specs.declared.word.Word.{Word}
 use Rattle.pvs_syntax.specs.declared.expression.Actual.{Actual}
 use Rattle.pvs_syntax.specs.declared.expression.Actual.TheVariants as actuals
@@ -19,12 +27,16 @@ use Rattle.pvs_syntax.specs.declared.expression.NameExpr.{NameExpr}
 use Rattle.pvs_syntax.specs.declared.expression.TypeExpr.{TypeExpr}
 use Rattle.pvs_syntax.specs.declared.expression.TypeExpr.TheVariants as type_expr
 use Rattle.pvs_parser.specs.Terminals.{is_id, same_kind}
-use Rattle.pvs_parser.specs.Language.{outermost, level, marked, held, inside, cleared, before_call, named, qualified, instance, untyped, typed, equation, empty, grouped, sign, operator, comparison, binder_word, begins_type, Item, Expression, Parameter, Component, Variable, BareVariable, Definition, ItemTree, Tokens}
+use Rattle.pvs_parser.specs.Language.{Limit, bounded, outermost, level, marked, held, inside, cleared, named, qualified, instance, untyped, typed, equation, empty, grouped, sign, operator, comparison, binder_word, begins_type, Item, Expression, Parameter, Component, Variable, BareVariable, Definition, ItemTree, Tokens}
+
+-- what is read, or where reading stops
+abbrev pub Answer : Type 0 → Type 0
+Answer A = Result A Stop
 
 infixl 10 ◌>>=◌
-abbrev pub ◌>>=◌ : {A B : Type 0} → Option A → (A → Option B) → Option B
-(Some x) >>= f = f x
-None >>= f = None
+abbrev pub ◌>>=◌ : {A B : Type 0} → Answer A → (A → Answer B) → Answer B
+(Ok x) >>= f = f x
+(Err s) >>= f = Err s
 
 -- what a value that may be there leads to, or else another answer
 abbrev pub either : {A B : Type 0} → Option A → (A → B) → B → B
@@ -33,141 +45,238 @@ either None f d = d
 
 -- a tree, with the nesting behind it and the tokens after it
 abbrev pub Read : Type 0 → Type 0
-Read A = Option (A × Nesting × Tokens)
+Read A = Answer (A × Nesting × Tokens)
+
+-- What a function returned, seen by view, is what reading gives, unless memory ran out.
+abbrev pub Fails : {Y : Type 0} → Failure → Answer Y → Type 0
+Fails failure.Memory read = ⊤
+Fails (failure.At s) read = read ≡ Err s
+
+abbrev pub Gives : {X Y : Type 0} → (X → Y) → Result X Failure → Answer Y → Type 0
+Gives view (Ok x) read = read ≡ Ok (view x)
+Gives view (Err e) read = Fails e read
 
 -- ---- Tokens.
+
+-- reading stops at the first of these tokens, or at their end
+abbrev pub stop : {A : Type 0} → Tokens → Answer A
+stop ts = Err (record { left = length ts; reason = reason.Unexpected })
+
+-- the first of these tokens is one too many
+abbrev pub too_many : {A : Type 0} → Tokens → Answer A
+too_many ts = Err (record { left = length ts; reason = reason.TooNested })
+
+-- the token before these nests too deep
+abbrev pub too_deep : {A : Type 0} → Tokens → Answer A
+too_deep ts = Err (record { left = length ts + 1; reason = reason.TooNested })
 
 -- the tokens after one of this kind, where it comes next
 abbrev pub after : TerminalKind → Tokens → Option Tokens
 after k [] = None
 after k (t ∷ ts) = if same_kind t.kind k then Some ts else None
 
--- an identifier that comes next, and the tokens after it
-abbrev pub id : Tokens → Option (Word × Tokens)
-id [] = None
-id (t ∷ ts) = if is_id t.kind then Some (t.word, ts) else None
+-- the tokens after one of this kind, which has to come next
+abbrev pub expect : TerminalKind → Tokens → Answer Tokens
+expect k [] = stop []
+expect k (t ∷ ts) = if same_kind t.kind k then Ok ts else stop (t ∷ ts)
 
-abbrev pub number : Tokens → Option (Word × Tokens)
-number [] = None
-number (t ∷ ts) = if same_kind t.kind kind.Number then Some (t.word, ts) else None
+-- an identifier, which has to come next, and the tokens after it
+abbrev pub id : Tokens → Answer (Word × Tokens)
+id [] = stop []
+id (t ∷ ts) = if is_id t.kind then Ok (t.word, ts) else stop (t ∷ ts)
+
+abbrev pub number : Tokens → Answer (Word × Tokens)
+number [] = stop []
+number (t ∷ ts) = if same_kind t.kind kind.Number then Ok (t.word, ts) else stop (t ∷ ts)
 
 -- an = or /= that comes next, and the tokens after it
+abbrev pub compares_of : Option InfixWord → Tokens → Option (InfixWord × Tokens)
+compares_of None ts = None
+compares_of (Some w) ts = Some (w, ts)
+
 abbrev pub compares : Tokens → Option (InfixWord × Tokens)
 compares [] = None
-compares (t ∷ ts) = comparison t.kind >>= λ w. Some (w, ts)
+compares (t ∷ ts) = compares_of (comparison t.kind) ts
 
--- a nesting, where one more frame or mark may stand at another one
-abbrev pub with_room : Nesting → Nesting → Option Nesting
-with_room n m = if nat_lt (level n) 200 then Some m else None
+-- the identifier and the colon that come next, and the tokens after them
+abbrev pub labels_of : Word → Option Tokens → Option (Word × Tokens)
+labels_of w None = None
+labels_of w (Some ts) = Some (w, ts)
 
-abbrev pub mark : Nesting → Option Nesting
-mark n = with_room n (marked n)
+abbrev pub labels : Tokens → Option (Word × Tokens)
+labels [] = None
+labels (t ∷ ts) = if is_id t.kind then labels_of t.word (after kind.Colon ts) else None
 
-abbrev pub hold : Nesting → Option Nesting
-hold n = with_room n (held n)
+-- ---- Levels, behind the token that opens a frame or sets a mark.
 
-abbrev pub enter : Nesting → Option Nesting
-enter n = with_room n (inside n)
+abbrev pub is_below : Limit → ℕ → Bool
+is_below (Some most) n = nat_lt n most
+is_below None n = true
+
+abbrev pub with_room : Limit → Nesting → Nesting → Tokens → Answer Nesting
+with_room limit n m ts = if is_below limit (level n) then Ok m else too_deep ts
+
+abbrev pub mark : Limit → Nesting → Tokens → Answer Nesting
+mark limit n ts = with_room limit n (marked n) ts
+
+abbrev pub hold : Limit → Nesting → Tokens → Answer Nesting
+hold limit n ts = with_room limit n (held n) ts
+
+abbrev pub enter : Limit → Nesting → Tokens → Answer Nesting
+enter limit n ts = with_room limit n (inside n) ts
 
 -- ---- What is read deeper.
 
-pub data Start : Type 0 where
-  Chain : Connective → Start
-  Operand : Start
-  Otherwise : Start
-  TypeStart : Start
-  ItemStart : Item → Start
+-- how expressions and types that stand deeper are read, and the limit
+pub record Go : Type 0 where
+  pub limit : Limit
+  pub expr : Start → Nesting → Tokens → Read Expr
+  pub type : Nesting → Tokens → Read TypeExpr
 
-abbrev pub StartTree : Start → Type 0
-StartTree (Chain c) = Expr
-StartTree Operand = Expr
-StartTree Otherwise = Expr
-StartTree TypeStart = TypeExpr
-StartTree (ItemStart i) = ItemTree i
+-- a whole expression
+abbrev pub deeper : Go → Nesting → Tokens → Read Expr
+deeper go l ts = go.expr (start.Chain connective.Iff) l ts
 
--- how what stands deeper is read
-abbrev pub Go : Type 0
-Go = (s : Start) → Nesting → Tokens → Read (StartTree s)
+-- ---- Items.
+
+-- an actual, whose first terminal may begin a type
+abbrev pub parameter_of : Go → Nesting → Tokens → Bool → Read Actual
+parameter_of go l ts true = go.type l ts >>= λ p. Ok (actuals.TypeActual p.0, p.1, p.2)
+parameter_of go l ts false = deeper go l ts >>= λ p. Ok (actuals.ExprActual p.0, p.1, p.2)
+
+abbrev pub comes_type : Tokens → Bool
+comes_type [] = false
+comes_type (t ∷ ts) = begins_type t.kind
+
+abbrev pub parameter_with : Go → Nesting → Tokens → Read Actual
+parameter_with go l ts = parameter_of go l ts (comes_type ts)
+
+-- a component without a name
+abbrev pub unnamed_with : Go → Nesting → Tokens → Read Binding
+unnamed_with go l [] = stop []
+unnamed_with go l (t ∷ ts) = go.type l (t ∷ ts) >>= λ q. Ok (typed (empty t.word) q.0, q.1, q.2)
+
+-- a name, and its type behind the colon
+abbrev pub typed_with : Go → Word → Nesting → Tokens → Read Binding
+typed_with go w l ts = go.type l ts >>= λ q. Ok (typed w q.0, q.1, q.2)
+
+abbrev pub component_with : Go → Nesting → Tokens → Read Binding
+component_with go l ts = either (labels ts) (λ p. typed_with go p.0 l p.1) (unnamed_with go l ts)
+
+abbrev pub variable_with : Go → Nesting → Tokens → Read Binding
+variable_with go l ts = id ts >>= λ p. either (after kind.Colon p.1) (λ us. typed_with go p.0 l us) (Ok (untyped p.0, l, p.1))
+
+abbrev pub bare_variable : Nesting → Tokens → Read Binding
+bare_variable l ts = id ts >>= λ p. Ok (untyped p.0, l, p.1)
+
+-- the value of a part, with the type that is written
+abbrev pub value_with : Go → Word → Option TypeExpr → Nesting → Tokens → Read LetPart
+value_with go w a l ts = expect kind.Equal ts >>= λ us. deeper go l us >>= λ q. Ok (equation w a q.0, q.1, q.2)
+
+abbrev pub definition_with : Go → Nesting → Tokens → Read LetPart
+definition_with go l ts = id ts >>= λ p. either (after kind.Colon p.1) (λ us. go.type l us >>= λ q. value_with go p.0 (Some q.0) q.1 q.2) (value_with go p.0 None l p.1)
+
+abbrev pub item_with : Go → (i : Item) → Nesting → Tokens → Read (ItemTree i)
+item_with go Expression l ts = deeper go l ts
+item_with go Parameter l ts = parameter_with go l ts
+item_with go Component l ts = component_with go l ts
+item_with go Variable l ts = variable_with go l ts
+item_with go BareVariable l ts = bare_variable l ts
+item_with go Definition l ts = definition_with go l ts
 
 -- ---- Lists.
 
+-- Behind the most entries that a list may have: one more that begins here is one too many.
+abbrev pub crowded : {A B : Type 0} → Tokens → Answer A → Answer B
+crowded ts (Ok x) = too_many ts
+crowded ts (Err s) = if s.left == length ts then Err s else too_many ts
+
 -- items with commas between them, behind those found; at most so many
 unfoldable pub list_from : {A : Type 0} → (Nesting → Tokens → Read A) → ℕ → List A → Nesting → Tokens → Read (List A)
-list_from reads zero found l ts = None
-list_from reads (suc room) found l ts = reads l ts >>= λ p. either (after kind.Comma p.2) (λ us. list_from reads room (found ++ p.0 ∷ []) (cleared p.1) us) (Some (found ++ p.0 ∷ [], p.1, p.2))
+list_from reads zero found l ts = crowded ts (reads l ts)
+list_from reads (suc room) found l ts = reads l ts >>= λ p. either (after kind.Comma p.2) (λ us. list_from reads room (found ++ p.0 ∷ []) (cleared p.1) us) (Ok (found ++ p.0 ∷ [], p.1, p.2))
+
+-- how many entries a list of these tokens may have
+abbrev pub entries : Limit → Tokens → ℕ
+entries (Some most) ts = most
+entries None ts = length ts
 
 abbrev pub list_with : Go → (i : Item) → Nesting → Tokens → Read (List (ItemTree i))
-list_with go i l ts = list_from (go (ItemStart i)) 200 [] l ts
+list_with go i l ts = list_from (item_with go i) (entries go.limit ts) [] l ts
 
 -- a list in a frame, up to the sign that ends it
-abbrev pub framed_with : Go → (i : Item) → TerminalKind → Nesting → Tokens → Option (List (ItemTree i) × Tokens)
-framed_with go i end l ts = enter l >>= λ m. list_with go i m ts >>= λ p. after end p.2 >>= λ us. Some (p.0, us)
+abbrev pub framed_with : Go → (i : Item) → TerminalKind → Nesting → Tokens → Answer (List (ItemTree i) × Tokens)
+framed_with go i end l ts = enter go.limit l ts >>= λ m. list_with go i m ts >>= λ p. expect end p.2 >>= λ us. Ok (p.0, us)
 
 -- ---- Names.
 
-abbrev pub name_of : Word → List Actual → Tokens → Option (NameExpr × Tokens)
-name_of w xs ts = id ts >>= λ p. Some (qualified (instance w xs) p.0, p.1)
+abbrev pub name_of : Word → List Actual → Tokens → Answer (NameExpr × Tokens)
+name_of w xs ts = id ts >>= λ p. Ok (qualified (instance w xs) p.0, p.1)
 
 -- behind an identifier and a bracket
-abbrev pub instance_name_with : Go → Word → Nesting → Tokens → Option (NameExpr × Tokens)
-instance_name_with go w l ts = framed_with go Parameter kind.CloseBracket l ts >>= λ p. after kind.Dot p.1 >>= λ us. name_of w p.0 us
+abbrev pub instance_name_with : Go → Word → Nesting → Tokens → Answer (NameExpr × Tokens)
+instance_name_with go w l ts = framed_with go Parameter kind.CloseBracket l ts >>= λ p. expect kind.Dot p.1 >>= λ us. name_of w p.0 us
 
-abbrev pub name_with : Go → Nesting → Tokens → Option (NameExpr × Tokens)
-name_with go l ts = id ts >>= λ p. either (after kind.OpenBracket p.1) (λ us. instance_name_with go p.0 l us)
-    (either (after kind.Dot p.1) (λ us. name_of p.0 [] us) (Some (named p.0, p.1)))
+-- behind an identifier
+abbrev pub name_after : Go → Word → Nesting → Tokens → Answer (NameExpr × Tokens)
+name_after go w l ts = either (after kind.OpenBracket ts) (λ us. instance_name_with go w l us)
+    (either (after kind.Dot ts) (λ us. name_of w [] us) (Ok (named w, ts)))
+
+abbrev pub name_with : Go → Nesting → Tokens → Answer (NameExpr × Tokens)
+name_with go l ts = id ts >>= λ p. name_after go p.0 l p.1
 
 -- ---- Terms.
 
 -- a term that was read, and whether a parenthesis behind it sets a mark
 abbrev pub First : Type 0
-First = Option (Expr × Bool × Tokens)
+First = Answer (Expr × Bool × Tokens)
 
 abbrev pub group_with : Go → Nesting → Word → Tokens → First
-group_with go l w ts = framed_with go Expression kind.Close l ts >>= λ p. Some (grouped w.pos p.0, true, p.1)
+group_with go l w ts = framed_with go Expression kind.Close l ts >>= λ p. Ok (grouped w.pos p.0, true, p.1)
 
--- an expression up to a word of an IF
-abbrev pub part_with : Go → TerminalKind → Nesting → Tokens → Read Expr
-part_with go end l ts = go (ItemStart Expression) l ts >>= λ p. after end p.2 >>= λ us. Some (p.0, cleared p.1, us)
+-- the expression behind IF or ELSIF, up to THEN
+abbrev pub condition_with : Go → Nesting → Tokens → Read Expr
+condition_with go l ts = deeper go l ts >>= λ p. expect kind.Then p.2 >>= λ us. Ok (p.0, cleared p.1, us)
 
 -- what stands behind IF or ELSIF
 abbrev pub cond_with : Go → Word → Nesting → Tokens → Read Expr
-cond_with go w l ts = part_with go kind.Then l ts >>= λ p. go (ItemStart Expression) p.1 p.2 >>= λ q. go Otherwise q.1 q.2 >>= λ r. Some (expr.Cond p.0 q.0 r.0 w.pos, r.1, r.2)
+cond_with go w l ts = condition_with go l ts >>= λ p. deeper go p.1 p.2 >>= λ q. go.expr start.Otherwise q.1 q.2 >>= λ r. Ok (expr.Cond p.0 q.0 r.0 w.pos, r.1, r.2)
 
 abbrev pub if_with : Go → Nesting → Word → Tokens → First
-if_with go l w ts = enter l >>= λ m. cond_with go w m ts >>= λ p. Some (p.0, true, p.2)
+if_with go l w ts = enter go.limit l ts >>= λ m. cond_with go w m ts >>= λ p. Ok (p.0, true, p.2)
 
-abbrev pub name_term_with : Go → Nesting → Tokens → First
-name_term_with go l ts = name_with go l ts >>= λ p. Some (expr.NameTerm p.0, false, p.1)
+abbrev pub name_term_with : Go → Nesting → Word → Tokens → First
+name_term_with go l w ts = name_after go w l ts >>= λ p. Ok (expr.NameTerm p.0, false, p.1)
 
 abbrev pub first_of : Go → Nesting → Terminal → Tokens → TerminalKind → First
-first_of go l t ts kind.True = Some (expr.Truth true t.word.pos, false, ts)
-first_of go l t ts kind.False = Some (expr.Truth false t.word.pos, false, ts)
-first_of go l t ts kind.Id = name_term_with go l (t ∷ ts)
-first_of go l t ts kind.Proof = name_term_with go l (t ∷ ts)
+first_of go l t ts kind.True = Ok (expr.Truth true t.word.pos, false, ts)
+first_of go l t ts kind.False = Ok (expr.Truth false t.word.pos, false, ts)
+first_of go l t ts kind.Id = name_term_with go l t.word ts
+first_of go l t ts kind.Proof = name_term_with go l t.word ts
 first_of go l t ts kind.Open = group_with go l t.word ts
 first_of go l t ts kind.If = if_with go l t.word ts
-first_of go l t ts _ = None
+first_of go l t ts _ = stop (t ∷ ts)
 
 abbrev pub first_with : Go → Nesting → Tokens → First
-first_with go l [] = None
+first_with go l [] = stop []
 first_with go l (t ∷ ts) = first_of go l t ts t.kind
 
 -- before a parenthesis behind a term
-abbrev pub call_mark : Bool → Nesting → Option Nesting
-call_mark true n = mark n
-call_mark false n = Some n
+abbrev pub call_mark : Limit → Bool → Nesting → Tokens → Answer Nesting
+call_mark limit true n ts = mark limit n ts
+call_mark limit false n ts = Ok n
 
 abbrev pub call_with : Go → Bool → Expr → Nesting → Tokens → Read Expr
-call_with go b x l ts = call_mark b l >>= λ m. framed_with go Expression kind.Close m ts >>= λ p. Some (expr.Apply x p.0, m, p.1)
+call_with go b x l ts = call_mark go.limit b l ts >>= λ m. framed_with go Expression kind.Close m ts >>= λ p. Ok (expr.Apply x p.0, m, p.1)
 
-abbrev pub project : Expr → Nesting → Tokens → Read Expr
-project x l ts = mark l >>= λ m. number ts >>= λ p. Some (expr.Project x p.0, m, p.1)
+abbrev pub project : Limit → Expr → Nesting → Tokens → Read Expr
+project limit x l ts = mark limit l ts >>= λ m. number ts >>= λ p. Ok (expr.Project x p.0, m, p.1)
 
 -- arguments and projections behind a term; the number bounds the turns, and each turn takes a token
 unfoldable pub term_from : Go → ℕ → Bool → Expr → Nesting → Tokens → Read Expr
-term_from go zero b x l ts = Some (x, l, ts)
+term_from go zero b x l ts = Ok (x, l, ts)
 term_from go (suc n) b x l ts = either (after kind.Open ts) (λ us. call_with go b x l us >>= λ p. term_from go n true p.0 p.1 p.2)
-    (either (after kind.Backquote ts) (λ us. project x l us >>= λ p. term_from go n true p.0 p.1 p.2) (Some (x, l, ts)))
+    (either (after kind.Backquote ts) (λ us. project go.limit x l us >>= λ p. term_from go n true p.0 p.1 p.2) (Ok (x, l, ts)))
 
 abbrev pub term_with : Go → Nesting → Tokens → Read Expr
 term_with go l ts = first_with go l ts >>= λ p. term_from go (length ts) p.1 p.0 l p.2
@@ -175,58 +284,75 @@ term_with go l ts = first_with go l ts >>= λ p. term_from go (length ts) p.1 p.
 -- ---- NOT, binders and LET.
 
 abbrev pub body_with : Go → (List Binding) → BinderWord → Word → Nesting → Tokens → Read Expr
-body_with go bs b w l ts = after kind.Colon ts >>= λ us. go (Chain connective.Iff) l us >>= λ p. Some (expr.Binder b bs p.0 w.pos, p.1, p.2)
+body_with go bs b w l ts = expect kind.Colon ts >>= λ us. deeper go l us >>= λ p. Ok (expr.Binder b bs p.0 w.pos, p.1, p.2)
+
+-- bindings in parentheses, and the body
+abbrev pub bindings_with : Go → BinderWord → Word → Nesting → Tokens → Read Expr
+bindings_with go b w l ts = framed_with go Variable kind.Close l ts >>= λ p. body_with go p.0 b w l p.1
+
+-- identifiers, and the body
+abbrev pub bare_bindings_with : Go → BinderWord → Word → Nesting → Tokens → Read Expr
+bare_bindings_with go b w l ts = list_with go BareVariable l ts >>= λ p. body_with go p.0 b w p.1 p.2
 
 abbrev pub binder_with : Go → BinderWord → Word → Nesting → Tokens → Read Expr
-binder_with go b w l ts = hold l >>= λ m. either (after kind.Open ts) (λ us. framed_with go Variable kind.Close m us >>= λ p. body_with go p.0 b w m p.1)
-    (list_with go BareVariable m ts >>= λ p. body_with go p.0 b w p.1 p.2)
+binder_with go b w l ts = hold go.limit l ts >>= λ m. either (after kind.Open ts) (λ us. bindings_with go b w m us) (bare_bindings_with go b w m ts)
 
 abbrev pub let_with : Go → Word → Nesting → Tokens → Read Expr
-let_with go w l ts = hold l >>= λ m. list_with go Definition m ts >>= λ p. after kind.In p.2 >>= λ us. go (Chain connective.Iff) p.1 us >>= λ q. Some (expr.Let p.0 q.0 w.pos, q.1, q.2)
+let_with go w l ts = hold go.limit l ts >>= λ m. list_with go Definition m ts >>= λ p. expect kind.In p.2 >>= λ us. deeper go p.1 us >>= λ q. Ok (expr.Let p.0 q.0 w.pos, q.1, q.2)
 
 abbrev pub not_with : Go → Word → Nesting → Tokens → Read Expr
-not_with go w l ts = mark l >>= λ m. go Operand m ts >>= λ p. Some (expr.Not p.0 w.pos, p.1, p.2)
+not_with go w l ts = mark go.limit l ts >>= λ m. go.expr start.Operand m ts >>= λ p. Ok (expr.Not p.0 w.pos, p.1, p.2)
 
--- what begins a form: NOT, a binder or LET
-pub data Prefix : Type 0 where
-  Negation : Prefix
-  Binding_ : BinderWord → Prefix
-  Local : Prefix
-
+-- what NOT, a binder or LET begins
 abbrev pub prefix_of_binder : Option BinderWord → Option Prefix
-prefix_of_binder (Some b) = Some (Binding_ b)
+prefix_of_binder (Some b) = Some (prefixes.Binder b)
 prefix_of_binder None = None
 
 abbrev pub prefix : TerminalKind → Option Prefix
-prefix kind.Not = Some Negation
-prefix kind.Let = Some Local
+prefix kind.Not = Some prefixes.Negation
+prefix kind.Let = Some prefixes.Local
 prefix k = prefix_of_binder (binder_word k)
+
+abbrev pub begins_of : Option Prefix → Word → Tokens → Option (Prefix × Word × Tokens)
+begins_of None w ts = None
+begins_of (Some p) w ts = Some (p, w, ts)
 
 abbrev pub begins : Tokens → Option (Prefix × Word × Tokens)
 begins [] = None
-begins (t ∷ ts) = prefix t.kind >>= λ p. Some (p, t.word, ts)
+begins (t ∷ ts) = begins_of (prefix t.kind) t.word ts
 
 abbrev pub prefixed_with : Go → Nesting → Prefix → Word → Tokens → Read Expr
-prefixed_with go l Negation w ts = not_with go w l ts
-prefixed_with go l (Binding_ b) w ts = binder_with go b w l ts
-prefixed_with go l Local w ts = let_with go w l ts
+prefixed_with go l prefixes.Negation w ts = not_with go w l ts
+prefixed_with go l (prefixes.Binder b) w ts = binder_with go b w l ts
+prefixed_with go l prefixes.Local w ts = let_with go w l ts
 
 -- ---- Operands and chains.
 
--- what stands behind a term
+-- what NOT, a binder or LET begins, behind an = or /=
+abbrev pub last_with : Go → InfixWord → Expr → Nesting → Prefix → Word → Tokens → Read Expr
+last_with go o x l p w ts = prefixed_with go l p w ts >>= λ r. Ok (expr.Infix o x r.0, r.1, r.2)
+
+-- what stands behind a term; the number bounds the turns, and each turn takes a token
 unfoldable pub compared_from : Go → ℕ → Expr → Nesting → Tokens → Read Expr
-compared_from go zero x l ts = Some (x, l, ts)
+compared_from go zero x l ts = Ok (x, l, ts)
 compared_from go (suc n) x l ts = either (compares ts)
-    (λ p. mark l >>= λ m. either (begins p.1) (λ q. prefixed_with go m q.0 q.1 q.2 >>= λ r. Some (expr.Infix p.0 x r.0, r.1, r.2))
+    (λ p. mark go.limit l p.1 >>= λ m. either (begins p.1) (λ q. last_with go p.0 x m q.0 q.1 q.2)
     (term_with go m p.1 >>= λ r. compared_from go n (expr.Infix p.0 x r.0) r.1 r.2))
-    (Some (x, l, ts))
+    (Ok (x, l, ts))
+
+-- a term, and what it is compared with
+abbrev pub comparison_with : Go → Nesting → Tokens → Read Expr
+comparison_with go l ts = term_with go l ts >>= λ p. compared_from go (length ts) p.0 p.1 p.2
 
 abbrev pub operand_with : Go → Nesting → Tokens → Read Expr
-operand_with go l ts = either (begins ts) (λ p. prefixed_with go l p.0 p.1 p.2) (term_with go l ts >>= λ p. compared_from go (length ts) p.0 p.1 p.2)
+operand_with go l ts = either (begins ts) (λ p. prefixed_with go l p.0 p.1 p.2) (comparison_with go l ts)
 
 -- behind a left operand
+abbrev pub chain_after : Go → Connective → Expr → Nesting → Tokens → Read Expr
+chain_after go c x l ts = either (after (sign c) ts) (λ us. mark go.limit l us >>= λ m. go.expr (start.Chain c) m us >>= λ q. Ok (expr.Infix (operator c) x q.0, q.1, q.2)) (Ok (x, l, ts))
+
 abbrev pub chain_on : Go → Connective → Read Expr → Read Expr
-chain_on go c r = r >>= λ p. either (after (sign c) p.2) (λ us. mark p.1 >>= λ m. go (Chain c) m us >>= λ q. Some (expr.Infix (operator c) p.0 q.0, q.1, q.2)) (Some (p.0, p.1, p.2))
+chain_on go c r = r >>= λ p. chain_after go c p.0 p.1 p.2
 
 -- what stands between connectives of this kind
 abbrev pub between_with : Go → Connective → Nesting → Tokens → Read Expr
@@ -238,119 +364,86 @@ between_with go connective.Iff l ts = chain_on go connective.Implies (chain_on g
 abbrev pub chain_with : Go → Connective → Nesting → Tokens → Read Expr
 chain_with go c l ts = chain_on go c (between_with go c l ts)
 
-abbrev pub expression_with : Go → Nesting → Tokens → Read Expr
-expression_with go l ts = chain_with go connective.Iff l ts
-
--- behind THEN and an expression
+-- behind ELSE
 abbrev pub else_with : Go → Nesting → Tokens → Read Expr
-else_with go l ts = go (ItemStart Expression) (cleared l) ts >>= λ p. after kind.EndIf p.2 >>= λ us. Some (p.0, p.1, us)
+else_with go l ts = deeper go (cleared l) ts >>= λ p. expect kind.EndIf p.2 >>= λ us. Ok (p.0, p.1, us)
+
+-- behind ELSIF
+abbrev pub elsif_with : Go → Word → Nesting → Tokens → Read Expr
+elsif_with go w l ts = hold go.limit (cleared l) ts >>= λ m. cond_with go w m ts
 
 abbrev pub otherwise_of : Go → Nesting → Terminal → Tokens → TerminalKind → Read Expr
 otherwise_of go l t ts kind.Else = else_with go l ts
-otherwise_of go l t ts kind.Elsif = hold (cleared l) >>= λ m. cond_with go t.word m ts
-otherwise_of go l t ts _ = None
+otherwise_of go l t ts kind.Elsif = elsif_with go t.word l ts
+otherwise_of go l t ts _ = stop (t ∷ ts)
 
+-- what stands behind THEN and an expression
 abbrev pub otherwise_with : Go → Nesting → Tokens → Read Expr
-otherwise_with go l [] = None
+otherwise_with go l [] = stop []
 otherwise_with go l (t ∷ ts) = otherwise_of go l t ts t.kind
 
 -- ---- Types.
 
 abbrev pub pred_type_with : Go → Nesting → Word → Tokens → Read TypeExpr
-pred_type_with go l w ts = enter l >>= λ m. go (ItemStart Expression) m ts >>= λ p. after kind.Close p.2 >>= λ us. Some (type_expr.PredType p.0 w.pos, l, us)
+pred_type_with go l w ts = enter go.limit l ts >>= λ m. deeper go m ts >>= λ p. expect kind.Close p.2 >>= λ us. Ok (type_expr.PredType p.0 w.pos, l, us)
 
--- an identifier, and a type behind a colon
-abbrev pub typed_with : Go → Nesting → Tokens → Option (Word × TypeExpr × Nesting × Tokens)
-typed_with go l ts = id ts >>= λ p. after kind.Colon p.1 >>= λ us. go TypeStart l us >>= λ q. Some (p.0, q.0, q.1, q.2)
+-- an identifier, and a type behind a colon, up to the bar
+abbrev pub base_with : Go → Nesting → Tokens → Answer (Word × TypeExpr × Nesting × Tokens)
+base_with go l ts = id ts >>= λ p. expect kind.Colon p.1 >>= λ us. go.type l us >>= λ q. expect kind.Bar q.2 >>= λ vs. Ok (p.0, q.0, q.1, vs)
 
 abbrev pub sub_type_with : Go → Nesting → Word → Tokens → Read TypeExpr
-sub_type_with go l w ts = enter l >>= λ m. typed_with go m ts >>= λ p. after kind.Bar p.3 >>= λ us. go (ItemStart Expression) p.2 us >>= λ q. after kind.CloseBrace q.2 >>= λ vs. Some (type_expr.SubType p.0 p.1 q.0 w.pos, l, vs)
+sub_type_with go l w ts = enter go.limit l ts >>= λ m. base_with go m ts >>= λ p. deeper go p.2 p.3 >>= λ q. expect kind.CloseBrace q.2 >>= λ vs. Ok (type_expr.SubType p.0 p.1 q.0 w.pos, l, vs)
 
--- behind the components of a domain
+-- behind the components of a domain and the arrow; the nesting is that outside the bracket, and that here
 abbrev pub fun_type_with : Go → Nesting → Word → List Binding → Nesting → Tokens → Read TypeExpr
-fun_type_with go l w bs m ts = go TypeStart m ts >>= λ p. after kind.CloseBracket p.2 >>= λ us. Some (type_expr.FunType bs p.0 w.pos, l, us)
+fun_type_with go l w bs m ts = go.type m ts >>= λ p. expect kind.CloseBracket p.2 >>= λ us. Ok (type_expr.FunType bs p.0 w.pos, l, us)
 
+-- behind the components of a tuple
 abbrev pub tuple_type : Nesting → Word → List Binding → Tokens → Read TypeExpr
-tuple_type l w (b ∷ c ∷ bs) ts = after kind.CloseBracket ts >>= λ us. Some (type_expr.TupleType (b ∷ c ∷ bs) w.pos, l, us)
-tuple_type l w _ ts = None
+tuple_type l w (b ∷ c ∷ bs) ts = expect kind.CloseBracket ts >>= λ us. Ok (type_expr.TupleType (b ∷ c ∷ bs) w.pos, l, us)
+tuple_type l w _ ts = stop ts
 
 abbrev pub bracket_type_with : Go → Nesting → Word → Tokens → Read TypeExpr
-bracket_type_with go l w ts = enter l >>= λ m. list_with go Component m ts >>= λ p. either (after kind.Arrow p.2) (λ us. fun_type_with go l w p.0 p.1 us) (tuple_type l w p.0 p.2)
+bracket_type_with go l w ts = enter go.limit l ts >>= λ m. list_with go Component m ts >>= λ p. either (after kind.Arrow p.2) (λ us. fun_type_with go l w p.0 p.1 us) (tuple_type l w p.0 p.2)
 
-abbrev pub name_type_with : Go → Nesting → Tokens → Read TypeExpr
-name_type_with go l ts = name_with go l ts >>= λ p. Some (type_expr.NameType p.0, l, p.1)
+abbrev pub name_type_with : Go → Nesting → Word → Tokens → Read TypeExpr
+name_type_with go l w ts = name_after go w l ts >>= λ p. Ok (type_expr.NameType p.0, l, p.1)
 
 abbrev pub type_of : Go → Nesting → Terminal → Tokens → TerminalKind → Read TypeExpr
-type_of go l t ts kind.Id = name_type_with go l (t ∷ ts)
-type_of go l t ts kind.Proof = name_type_with go l (t ∷ ts)
+type_of go l t ts kind.Id = name_type_with go l t.word ts
+type_of go l t ts kind.Proof = name_type_with go l t.word ts
 type_of go l t ts kind.Open = pred_type_with go l t.word ts
 type_of go l t ts kind.OpenBrace = sub_type_with go l t.word ts
 type_of go l t ts kind.OpenBracket = bracket_type_with go l t.word ts
-type_of go l t ts _ = None
+type_of go l t ts _ = stop (t ∷ ts)
 
 abbrev pub type_with : Go → Nesting → Tokens → Read TypeExpr
-type_with go l [] = None
+type_with go l [] = stop []
 type_with go l (t ∷ ts) = type_of go l t ts t.kind
-
--- ---- Items.
-
-abbrev pub parameter_of : Go → Nesting → Tokens → Bool → Read Actual
-parameter_of go l ts true = type_with go l ts >>= λ p. Some (actuals.TypeActual p.0, p.1, p.2)
-parameter_of go l ts false = expression_with go l ts >>= λ p. Some (actuals.ExprActual p.0, p.1, p.2)
-
-abbrev pub parameter_with : Go → Nesting → Tokens → Read Actual
-parameter_with go l [] = None
-parameter_with go l (t ∷ ts) = parameter_of go l (t ∷ ts) (begins_type t.kind)
-
--- the identifier and the colon that come next, and the tokens after them
-abbrev pub labels : Tokens → Option (Word × Tokens)
-labels ts = id ts >>= λ p. after kind.Colon p.1 >>= λ us. Some (p.0, us)
-
-abbrev pub component_with : Go → Nesting → Tokens → Read Binding
-component_with go l [] = None
-component_with go l (t ∷ ts) = either (labels (t ∷ ts)) (λ p. go TypeStart l p.1 >>= λ q. Some (typed p.0 q.0, q.1, q.2))
-    (type_with go l (t ∷ ts) >>= λ q. Some (typed (empty t.word) q.0, q.1, q.2))
-
-abbrev pub variable_with : Go → Nesting → Tokens → Read Binding
-variable_with go l ts = id ts >>= λ p. either (after kind.Colon p.1) (λ us. go TypeStart l us >>= λ q. Some (typed p.0 q.0, q.1, q.2)) (Some (untyped p.0, l, p.1))
-
-abbrev pub bare_variable : Nesting → Tokens → Read Binding
-bare_variable l ts = id ts >>= λ p. Some (untyped p.0, l, p.1)
-
--- the value of a part, with the type that is written
-abbrev pub value_with : Go → Word → Option TypeExpr → Nesting → Tokens → Read LetPart
-value_with go w a l ts = after kind.Equal ts >>= λ us. go (Chain connective.Iff) l us >>= λ q. Some (equation w a q.0, q.1, q.2)
-
-abbrev pub definition_with : Go → Nesting → Tokens → Read LetPart
-definition_with go l ts = id ts >>= λ p. either (after kind.Colon p.1) (λ us. go TypeStart l us >>= λ q. value_with go p.0 (Some q.0) q.1 q.2) (value_with go p.0 None l p.1)
-
-abbrev pub item_with : Go → (i : Item) → Nesting → Tokens → Read (ItemTree i)
-item_with go Expression l ts = expression_with go l ts
-item_with go Parameter l ts = parameter_with go l ts
-item_with go Component l ts = component_with go l ts
-item_with go Variable l ts = variable_with go l ts
-item_with go BareVariable l ts = bare_variable l ts
-item_with go Definition l ts = definition_with go l ts
 
 -- ---- The whole.
 
+abbrev pub expr_with : Go → Start → Nesting → Tokens → Read Expr
+expr_with go (start.Chain c) l ts = chain_with go c l ts
+expr_with go start.Operand l ts = operand_with go l ts
+expr_with go start.Otherwise l ts = otherwise_with go l ts
+
+abbrev pub nothing : Limit → Go
+nothing limit = record { limit = limit; expr = λ s l ts. stop ts; type = λ l ts. stop ts }
+
 abbrev pub step : Go → Go
-step go (Chain c) l ts = chain_with go c l ts
-step go Operand l ts = operand_with go l ts
-step go Otherwise l ts = otherwise_with go l ts
-step go TypeStart l ts = type_with go l ts
-step go (ItemStart i) l ts = item_with go i l ts
+step go = record { limit = go.limit; expr = expr_with go; type = type_with go }
 
 -- with so many forms inside one another at most
-unfoldable pub reader : ℕ → Go
-reader zero s l ts = None
-reader (suc a) s l ts = step (reader a) s l ts
+unfoldable pub reader : Limit → ℕ → Go
+reader limit zero = nothing limit
+reader limit (suc a) = step (reader limit a)
 
 -- a tree behind which no token is left
-abbrev pub ended : {A : Type 0} → A → Tokens → Option A
-ended x [] = Some x
-ended x (t ∷ ts) = None
+abbrev pub ended : {A : Type 0} → A → Tokens → Answer A
+ended x [] = Ok x
+ended x (t ∷ ts) = stop (t ∷ ts)
 
 -- all the tokens as one expression
-abbrev pub expression : Tokens → Option Expr
-expression ts = reader (length ts + 1) (Chain connective.Iff) outermost ts >>= λ p. ended p.0 p.2
+abbrev pub expression : Limit → Tokens → Answer Expr
+expression limit ts = deeper (reader limit (length ts + 1)) outermost ts >>= λ p. ended p.0 p.2
