@@ -1,3 +1,6 @@
 pub mod Terminals
 pub mod Language
 pub mod Descent
+pub mod Units
+pub mod UnitDescent
+pub mod Text

@@ -6,7 +6,7 @@ mod nesting;
 mod start;
 mod terminal;
 
-pub use failure::{Failure, Reason, Stop};
+pub use failure::{Failure, ParseFault, Reason, Stop};
 pub use nesting::Nesting;
 pub use start::Start;
 pub use terminal::{Connective, Prefix, Terminal, TerminalKind};
