@@ -149,7 +149,7 @@ stopped : {B : Type 0} (ts : Tokens) (e : Stop) (b : Bool) {Q : B → Type 0} �
 stopped ts e true = none
 stopped ts e false = none
 
-crowded_yields : {A B : Type 0} (ts : Tokens) (o : Answer A) {Q : B → Type 0} → Yields (crowded ts o) Q
+pub crowded_yields : {A B : Type 0} (ts : Tokens) (o : Answer A) {Q : B → Type 0} → Yields (crowded ts o) Q
 crowded_yields ts (Ok x) = none
 crowded_yields ts (Err e) = stopped ts e (e.left == length ts)
 

@@ -5,3 +5,6 @@ pub mod DescentSteps
 pub mod Nonempty
 pub mod Heads
 pub mod DescentSound
+pub mod Gets
+pub mod Deeper
+pub mod Ids

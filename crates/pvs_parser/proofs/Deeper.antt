@@ -1,0 +1,57 @@
+-- Whole expressions and types, as declarations have them.
+use Rattle.std.proofs.Common.{◌≡◌, ℕ, ◌<◌, List, [], ◌∷◌, ◌++◌}
+use Rattle.pvs_parser.specs.declared.nesting.Nesting.{Nesting}
+use Rattle.pvs_parser.specs.declared.terminal.Terminal.{Terminal}
+use Rattle.pvs_parser.specs.declared.terminal.TerminalKind.{TerminalKind}
+use Rattle.pvs_parser.specs.declared.terminal.TerminalKind.TheVariants as kind
+use Rattle.pvs_syntax.specs.declared.expression.Expr.{Expr}
+use Rattle.pvs_syntax.specs.declared.expression.TypeExpr.{TypeExpr}
+use Rattle.pvs_parser.specs.Terminals.{Is}
+use Rattle.pvs_parser.specs.Language.{Limit, Tokens, HasRoom, Derives, Ending, Item, ItemTree, list, type_, whole, outermost, inside}
+use Rattle.pvs_parser.specs.Descent.{framed_with}
+use Rattle.pvs_parser.specs.UnitDescent.{whole_reader, expr, type}
+use Rattle.pvs_parser.proofs.Follows.{pull_of, Ends}
+use Rattle.pvs_parser.proofs.Yields.{Yields}
+use Rattle.pvs_parser.proofs.Gets.{Gets}
+use Rattle.pvs_parser.proofs.DescentSteps.{Splits}
+
+-- a front of the tokens is what the relation says
+abbrev pub Fore : {A : Type 0} → (Tokens → A → Type 0) → Tokens → A × Tokens → Type 0
+Fore D ts p = (vs : Tokens) × Splits ts vs p.1 × D vs p.0
+
+abbrev pub IsExpr : Limit → Tokens → Expr → Type 0
+IsExpr limit ts x = (e : Ending) × (m : Nesting) × Derives limit (whole e) outermost ts x m
+
+abbrev pub IsType : Limit → Nesting → Tokens → TypeExpr → Type 0
+IsType limit l ts a = (m : Nesting) × Derives limit type_ l ts a m
+
+-- a list in a frame, and the sign that ends it
+abbrev pub IsFramed : Limit → (i : Item) → TerminalKind → Tokens → List (ItemTree i) → Type 0
+IsFramed limit i end ts xs = (vs : Tokens) × (u : Terminal) × (k : Nesting) × (ts ≡ vs ++ u ∷ []) × HasRoom limit outermost × Derives limit (list i) (inside outermost) vs xs k × Is end u
+
+pub expr_sound : (limit : Limit) (ts : Tokens) → Yields (expr limit ts) (Fore (IsExpr limit) ts)
+expr_sound limit ts = ?
+
+pub type_sound : (limit : Limit) (l : Nesting) (ts : Tokens) → Yields (type limit l ts) (Fore (IsType limit l) ts)
+type_sound limit l ts = ?
+
+pub framed_sound : (limit : Limit) (i : Item) (end : TerminalKind) (ts : Tokens) → Yields (framed_with (whole_reader limit ts) i end outermost ts) (Fore (IsFramed limit i end) ts)
+framed_sound limit i end ts = ?
+
+-- no whole expression goes on with what follows
+abbrev pub WholeEnds : Tokens → Type 0
+WholeEnds us = (pull_of us < 1) × Ends us
+
+pub expr_complete : (limit : Limit) (ts : Tokens) (x : Expr) → IsExpr limit ts x → (all us : Tokens) → Splits all ts us → WholeEnds us → Gets (expr limit all) (x, us)
+expr_complete limit ts x d all us s ends = ?
+
+pub type_complete : (limit : Limit) (l : Nesting) (ts : Tokens) (a : TypeExpr) → IsType limit l ts a → (all us : Tokens) → Splits all ts us → Ends us → Gets (type limit l all) (a, us)
+type_complete limit l ts a d all us s ends = ?
+
+pub bindings_complete : (limit : Limit) (ts : Tokens) (xs : List (ItemTree Item.Variable)) → IsFramed limit Item.Variable kind.Close ts xs → (all us : Tokens) → Splits all ts us
+    → Gets (framed_with (whole_reader limit all) Item.Variable kind.Close outermost all) (xs, us)
+bindings_complete limit ts xs d all us s = ?
+
+pub actuals_complete : (limit : Limit) (ts : Tokens) (xs : List (ItemTree Item.Parameter)) → IsFramed limit Item.Parameter kind.CloseBracket ts xs → (all us : Tokens) → Splits all ts us
+    → Gets (framed_with (whole_reader limit all) Item.Parameter kind.CloseBracket outermost all) (xs, us)
+actuals_complete limit ts xs d all us s = ?
