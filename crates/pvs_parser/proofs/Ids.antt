@@ -10,7 +10,7 @@ use Rattle.pvs_parser.specs.Units.{DerivesIds}
 use Rattle.pvs_parser.specs.Descent.{after, entries, list_from}
 use Rattle.pvs_parser.specs.UnitDescent.{name, ids}
 use Rattle.pvs_parser.proofs.Yields.{Yields, here, bind, cases, weaken}
-use Rattle.pvs_parser.proofs.Gets.{Gets, found, then_, there, absent, names, after_is}
+use Rattle.pvs_parser.proofs.Gets.{Gets, found, then_, there, absent, names, after_is, from}
 use Rattle.pvs_parser.proofs.DescentSteps.{Comes, after_yields, id_bind, AtMost, below_at_most, fewer, entries_at_most, one_more, enough_entries, Splits, glue, put, alone}
 use Rattle.pvs_parser.proofs.DescentSound.{crowded_yields}
 use Rattle.pvs_parser.proofs.Deeper.{Fore}
@@ -80,10 +80,13 @@ ids_few : (limit : Limit) (ts : Tokens) (ws : List Word) → DerivesIds limit ts
 ids_few limit _ _ (DerivesIds.one t is lt) = (one_more limit 0 lt, omega arith)
 ids_few limit _ _ (DerivesIds.more t u ts ws is comma d lt) = (one_more limit (length ws) lt, omega (arith, (ids_few limit ts ws d).1))
 
-pub ids_complete : (limit : Limit) (ts : Tokens) (ws : List Word) → DerivesIds limit ts ws → (us : Tokens) → after kind.Comma us ≡ None → Gets (ids limit (ts ++ us)) (ws, us)
-ids_complete limit ts ws d us none =
+ids_go : (limit : Limit) (ts : Tokens) (ws : List Word) → DerivesIds limit ts ws → (us : Tokens) → after kind.Comma us ≡ None → Gets (ids limit (ts ++ us)) (ws, us)
+ids_go limit ts ws d us none =
     let few = ids_few limit ts ws d in
     then_ _ (from_complete limit ts ws d (entries limit (ts ++ us)) (enough_entries limit (length ws) (ts ++ us) few.0 (omega (arith, few.1, length-append ts us))) [] us none) found
+
+pub ids_complete : (limit : Limit) (ts : Tokens) (ws : List Word) → DerivesIds limit ts ws → (all us : Tokens) → Splits all ts us → after kind.Comma us ≡ None → Gets (ids limit all) (ws, us)
+ids_complete limit ts ws d all us s none = from (λ z. ids limit z) s (ids_go limit ts ws d us none)
 
 -- names begin with an identifier
 pub ids_begin : (limit : Limit) (ts : Tokens) (ws : List Word) → DerivesIds limit ts ws → (t : Terminal) × (vs : Tokens) × (ts ≡ t ∷ vs) × IsId t

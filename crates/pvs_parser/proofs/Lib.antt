@@ -8,3 +8,5 @@ pub mod DescentSound
 pub mod Gets
 pub mod Deeper
 pub mod Ids
+pub mod Behind
+pub mod Formals
