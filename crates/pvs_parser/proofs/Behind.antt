@@ -122,3 +122,19 @@ starts_type kind.Open = true
 starts_type kind.OpenBrace = true
 starts_type kind.OpenBracket = true
 starts_type k = is_id k
+
+-- ---- single signs
+
+colon_no_comma : same_kind kind.Colon kind.Comma ≡ false
+unfolding same_kind
+colon_no_comma = refl
+
+pub colon_comma : (t : Terminal) (us : Tokens) → Is kind.Colon t → after kind.Comma (t ∷ us) ≡ None
+colon_comma t us is = after_other kind.Comma kind.Colon t us is colon_no_comma
+
+bracket_no_comma : same_kind kind.CloseBracket kind.Comma ≡ false
+unfolding same_kind
+bracket_no_comma = refl
+
+pub bracket_comma : (t : Terminal) (us : Tokens) → Is kind.CloseBracket t → after kind.Comma (t ∷ us) ≡ None
+bracket_comma t us is = after_other kind.Comma kind.CloseBracket t us is bracket_no_comma

@@ -14,10 +14,12 @@ use Rattle.pvs_parser.specs.Descent.{◌>>=◌, after, either, entries}
 use Rattle.pvs_parser.specs.UnitDescent.{type, plus, formal_of, formal_after, formal, formals_from, formals, formal_part}
 use Rattle.pvs_parser.proofs.Yields.{Yields, here, none, bind, cases, weaken}
 use Rattle.pvs_parser.proofs.Gets.{Gets, found, then_, there, absent, takes, names, after_is, after_other, has_room, both, unglue, from}
-use Rattle.pvs_parser.proofs.DescentSteps.{Comes, after_yields, expect_yields, room, AtMost, below_at_most, fewer, entries_at_most, one_more, enough_entries, Splits, glue, put, alone, nothing}
+use Rattle.pvs_parser.proofs.DescentSteps.{Comes, after_yields, expect_yields, room, AtMost, below_at_most, fewer, entries_at_most, one_more, enough_entries, Splits, glue, put, alone, nothing, below_zero}
 use Rattle.pvs_parser.proofs.DescentSound.{crowded_yields}
 use Rattle.pvs_parser.proofs.Deeper.{Fore, type_sound, type_complete}
 use Rattle.pvs_parser.proofs.Ids.{ids_sound, ids_complete}
+use Rattle.pvs_parser.proofs.Behind.{PartEnds, part_whole, part_plus, part_at, starts_type, colon_comma, bracket_comma}
+use Rattle.pvs_parser.proofs.TypeHeads.{type_begins}
 
 -- ---- TYPE, with a plus or without
 
@@ -90,3 +92,81 @@ pub formal_part_sound : (limit : Limit) (ts : Tokens) → Yields (formal_part li
 formal_part_sound limit ts = cases
     (λ us a. let c = (after_yields kind.OpenBracket ts).holds us a in formals_sound limit c.0 ts us c.1 c.2)
     (λ a. here ([], nothing, DerivesFormalPart.none))
+
+-- ---- the other way round
+
+abbrev pair : {A B : Type 0} → A → B → A × B
+pair a b = (a, b)
+
+pub plus_goes : (t : Terminal) (us : Tokens) → Is kind.Plus t → plus (t ∷ us) ≡ pair true us
+plus_goes t us is = ap (λ o. either o (λ us. pair true us) (pair false (t ∷ us))) (after_is kind.Plus t us is)
+
+pub plus_stops : (us : Tokens) → after kind.Plus us ≡ None → plus us ≡ pair false us
+plus_stops us none = ap (λ o. either o (λ us. pair true us) (pair false us)) none
+
+formal_types : (limit : Limit) (ts : Tokens) (nonempty : Bool) → DerivesTypeWord ts nonempty → (ws : List Word) (us : Tokens) → PartEnds us → Gets (formal_after limit ws (ts ++ us)) (map (type_formal nonempty) ws, us)
+formal_types limit _ _ (DerivesTypeWord.type t is) ws us ends =
+    record { is = ap (formal_of limit ws t us) is ∙ ap (λ z. Ok (map (type_formal z.0) ws, z.1)) (plus_stops us (part_plus us ends)) }
+formal_types limit _ _ (DerivesTypeWord.type_plus t u is sign) ws us ends =
+    record { is = ap (formal_of limit ws t (u ∷ us)) is ∙ ap (λ z. Ok (map (type_formal z.0) ws, z.1)) (plus_goes u us sign) }
+formal_types limit _ _ (DerivesTypeWord.nonempty_type t is) ws us ends = record { is = ap (formal_of limit ws t us) is }
+
+formal_type : (limit : Limit) (ws : List Word) (t : Terminal) (ts : Tokens) (k : TerminalKind) → starts_type k ≡ true
+    → formal_of limit ws t ts k ≡ (type limit (inside outermost) (t ∷ ts) >>= λ p. Ok (map (const_formal p.0) ws, p.1))
+formal_type limit ws t ts kind.Type e = cc
+formal_type limit ws t ts kind.NonemptyType e = cc
+formal_type limit ws t ts _ e = refl
+
+formal_constants : (limit : Limit) (ts : Tokens) (a : TypeExpr) (m : Nesting) → Derives limit type_ (inside outermost) ts a m → (ws : List Word) (us : Tokens) → PartEnds us → Gets (formal_after limit ws (ts ++ us)) (map (const_formal a) ws, us)
+formal_constants limit ts a m d ws us ends =
+    let b = type_begins limit (inside outermost) ts a m d in
+    let g : Gets (type limit (inside outermost) (b.0 ∷ (b.1 ++ us))) (a, us) =
+    subst (λ z. Gets (type limit (inside outermost) (z ++ us)) (a, us)) b.2 (type_complete limit (inside outermost) ts a (m, d) (ts ++ us) us both (part_whole us ends).1) in
+    subst (λ z. Gets (formal_after limit ws (z ++ us)) (map (const_formal a) ws, us)) (sym b.2)
+    (record { is = formal_type limit ws b.0 (b.1 ++ us) b.0.kind b.3 ∙ (then_ (λ p. Ok (map (const_formal p.0) ws, p.1)) g found).is })
+
+formal_complete : (limit : Limit) (ts : Tokens) (fs : List Formal) → DerivesFormal limit ts fs → (all us : Tokens) → Splits all ts us → PartEnds us → Gets (formal limit all) (fs, us)
+formal_complete limit _ _ (DerivesFormal.types ts vs ws nonempty t d colon e) all us s ends =
+    then_ _ (ids_complete limit ts ws d all (t ∷ (vs ++ us)) (unglue ts (t ∷ vs) s) (colon_comma t (vs ++ us) colon)) (takes kind.Colon t (vs ++ us) _ colon (formal_types limit vs nonempty e ws us ends))
+formal_complete limit _ _ (DerivesFormal.constants ts vs ws a m t d colon e) all us s ends =
+    then_ _ (ids_complete limit ts ws d all (t ∷ (vs ++ us)) (unglue ts (t ∷ vs) s) (colon_comma t (vs ++ us) colon)) (takes kind.Colon t (vs ++ us) _ colon (formal_constants limit vs a m e ws us ends))
+
+last_formal : (limit : Limit) (n : ℕ) (before fs : List Formal) (all us : Tokens) → Gets (formal limit all) (fs, us) → after kind.Comma us ≡ None → Gets (formals_from limit (suc n) before all) (before ++ fs, us)
+unfolding formals_from
+last_formal limit n before fs all us g none = then_ _ g (absent _ none found)
+
+next_formal : (limit : Limit) (n : ℕ) (before fs gs : List Formal) (t : Terminal) (all rest us : Tokens) → Gets (formal limit all) (fs, t ∷ rest) → Is kind.Comma t
+    → Gets (formals_from limit n (before ++ fs) rest) ((before ++ fs) ++ gs, us) → Gets (formals_from limit (suc n) before all) (before ++ (fs ++ gs), us)
+unfolding formals_from
+next_formal limit n before fs gs t all rest us g comma h =
+    then_ _ g (there _ _ (after_is kind.Comma t rest comma) (subst (λ z. Gets (formals_from limit n (before ++ fs) rest) (z, us)) (append_assoc before fs gs) h))
+
+from_complete : (limit : Limit) (k : ℕ) (ts : Tokens) (fs : List Formal) → DerivesFormals limit k ts fs → (n : ℕ) → k ≤ n → (before : List Formal) (all us : Tokens) → Splits all ts us → PartEnds us → after kind.Comma us ≡ None
+    → Gets (formals_from limit n before all) (before ++ fs, us)
+from_complete limit _ _ _ (DerivesFormals.one ts fs d) zero le before all us s ends none = absurd (omega (arith, le))
+from_complete limit _ _ _ (DerivesFormals.one ts fs d) (suc n) le before all us s ends none = last_formal limit n before fs all us (formal_complete limit ts fs d all us s ends) none
+from_complete limit _ _ _ (DerivesFormals.more k ts vs fs gs t d comma e lt) zero le before all us s ends none = absurd (omega (arith, le))
+from_complete limit _ _ _ (DerivesFormals.more k ts vs fs gs t d comma e lt) (suc n) le before all us s ends none =
+    next_formal limit n before fs gs t all (vs ++ us) us (formal_complete limit ts fs d all (t ∷ (vs ++ us)) (unglue ts (t ∷ vs) s) (part_at kind.Comma refl t (vs ++ us) comma)) comma
+    (from_complete limit k vs gs e n (omega (arith, le)) (before ++ fs) (vs ++ us) us both ends none)
+
+formal_some : (limit : Limit) (ts : Tokens) (fs : List Formal) → DerivesFormal limit ts fs → 1 ≤ length ts
+formal_some limit _ _ (DerivesFormal.types ts vs ws nonempty t d colon e) = omega (arith, length-append ts (t ∷ vs))
+formal_some limit _ _ (DerivesFormal.constants ts vs ws a m t d colon e) = omega (arith, length-append ts (t ∷ vs))
+
+formals_few : (limit : Limit) → IsBelow limit 0 → (k : ℕ) (ts : Tokens) (fs : List Formal) → DerivesFormals limit k ts fs → AtMost limit k × (k ≤ length ts)
+formals_few limit some _ _ _ (DerivesFormals.one ts fs d) = (one_more limit 0 some, formal_some limit ts fs d)
+formals_few limit some _ _ _ (DerivesFormals.more k ts vs fs gs t d comma e lt) = (one_more limit k lt, omega (arith, length-append ts (t ∷ vs), (formals_few limit some k vs gs e).1))
+
+formals_goes : (limit : Limit) (k : ℕ) (ts : Tokens) (fs : List Formal) (u : Terminal) (all us : Tokens) → HasRoom limit outermost → DerivesFormals limit k ts fs → Is kind.CloseBracket u → Splits all ts (u ∷ us) → Gets (formals limit all) (fs, us)
+formals_goes limit k ts fs u all us lt d close s =
+    let few = formals_few limit lt k ts fs d in
+    let size : length all ≡ length (ts ++ u ∷ us) = ap length s.same in
+    has_room limit outermost (inside outermost) all _ lt
+    (then_ _ (from_complete limit k ts fs d (entries limit all) (enough_entries limit k all few.0 (omega (arith, few.1, size, length-append ts (u ∷ us)))) [] all (u ∷ us) s (part_at kind.CloseBracket refl u us close) (bracket_comma u us close))
+    (takes kind.CloseBracket u us _ close found))
+
+pub formal_part_complete : (limit : Limit) (ts : Tokens) (fs : List Formal) → DerivesFormalPart limit ts fs → (us : Tokens) → after kind.OpenBracket us ≡ None → Gets (formal_part limit (ts ++ us)) (fs, us)
+formal_part_complete limit _ _ DerivesFormalPart.none us none = absent _ none found
+formal_part_complete limit _ _ (DerivesFormalPart.formals n ts fs t u is lt d close) us none =
+    there _ _ (after_is kind.OpenBracket t ((ts ++ u ∷ []) ++ us) is) (formals_goes limit n ts fs u ((ts ++ u ∷ []) ++ us) us lt d close (unglue ts (u ∷ []) both))

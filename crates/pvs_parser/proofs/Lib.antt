@@ -10,3 +10,4 @@ pub mod Deeper
 pub mod Ids
 pub mod Behind
 pub mod Formals
+pub mod TypeHeads
