@@ -125,11 +125,11 @@ formal_constants limit ts a m d ws us ends =
     subst (λ z. Gets (formal_after limit ws (z ++ us)) (map (const_formal a) ws, us)) (sym b.2)
     (record { is = formal_type limit ws b.0 (b.1 ++ us) b.0.kind b.3 ∙ (then_ (λ p. Ok (map (const_formal p.0) ws, p.1)) g found).is })
 
-formal_complete : (limit : Limit) (ts : Tokens) (fs : List Formal) → DerivesFormal limit ts fs → (all us : Tokens) → Splits all ts us → PartEnds us → Gets (formal limit all) (fs, us)
-formal_complete limit _ _ (DerivesFormal.types ts vs ws nonempty t d colon e) all us s ends =
-    then_ _ (ids_complete limit ts ws d all (t ∷ (vs ++ us)) (unglue ts (t ∷ vs) s) (colon_comma t (vs ++ us) colon)) (takes kind.Colon t (vs ++ us) _ colon (formal_types limit vs nonempty e ws us ends))
-formal_complete limit _ _ (DerivesFormal.constants ts vs ws a m t d colon e) all us s ends =
-    then_ _ (ids_complete limit ts ws d all (t ∷ (vs ++ us)) (unglue ts (t ∷ vs) s) (colon_comma t (vs ++ us) colon)) (takes kind.Colon t (vs ++ us) _ colon (formal_constants limit vs a m e ws us ends))
+formal_complete : (limit : Limit) → IsBelow limit 0 → (ts : Tokens) (fs : List Formal) → DerivesFormal limit ts fs → (all us : Tokens) → Splits all ts us → PartEnds us → Gets (formal limit all) (fs, us)
+formal_complete limit some _ _ (DerivesFormal.types ts vs ws nonempty t d colon e) all us s ends =
+    then_ _ (ids_complete limit some ts ws d all (t ∷ (vs ++ us)) (unglue ts (t ∷ vs) s) (colon_comma t (vs ++ us) colon)) (takes kind.Colon t (vs ++ us) _ colon (formal_types limit vs nonempty e ws us ends))
+formal_complete limit some _ _ (DerivesFormal.constants ts vs ws a m t d colon e) all us s ends =
+    then_ _ (ids_complete limit some ts ws d all (t ∷ (vs ++ us)) (unglue ts (t ∷ vs) s) (colon_comma t (vs ++ us) colon)) (takes kind.Colon t (vs ++ us) _ colon (formal_constants limit vs a m e ws us ends))
 
 last_formal : (limit : Limit) (n : ℕ) (before fs : List Formal) (all us : Tokens) → Gets (formal limit all) (fs, us) → after kind.Comma us ≡ None → Gets (formals_from limit (suc n) before all) (before ++ fs, us)
 unfolding formals_from
@@ -141,14 +141,14 @@ unfolding formals_from
 next_formal limit n before fs gs t all rest us g comma h =
     then_ _ g (there _ _ (after_is kind.Comma t rest comma) (subst (λ z. Gets (formals_from limit n (before ++ fs) rest) (z, us)) (append_assoc before fs gs) h))
 
-from_complete : (limit : Limit) (k : ℕ) (ts : Tokens) (fs : List Formal) → DerivesFormals limit k ts fs → (n : ℕ) → k ≤ n → (before : List Formal) (all us : Tokens) → Splits all ts us → PartEnds us → after kind.Comma us ≡ None
+from_complete : (limit : Limit) → IsBelow limit 0 → (k : ℕ) (ts : Tokens) (fs : List Formal) → DerivesFormals limit k ts fs → (n : ℕ) → k ≤ n → (before : List Formal) (all us : Tokens) → Splits all ts us → PartEnds us → after kind.Comma us ≡ None
     → Gets (formals_from limit n before all) (before ++ fs, us)
-from_complete limit _ _ _ (DerivesFormals.one ts fs d) zero le before all us s ends none = absurd (omega (arith, le))
-from_complete limit _ _ _ (DerivesFormals.one ts fs d) (suc n) le before all us s ends none = last_formal limit n before fs all us (formal_complete limit ts fs d all us s ends) none
-from_complete limit _ _ _ (DerivesFormals.more k ts vs fs gs t d comma e lt) zero le before all us s ends none = absurd (omega (arith, le))
-from_complete limit _ _ _ (DerivesFormals.more k ts vs fs gs t d comma e lt) (suc n) le before all us s ends none =
-    next_formal limit n before fs gs t all (vs ++ us) us (formal_complete limit ts fs d all (t ∷ (vs ++ us)) (unglue ts (t ∷ vs) s) (part_at kind.Comma refl t (vs ++ us) comma)) comma
-    (from_complete limit k vs gs e n (omega (arith, le)) (before ++ fs) (vs ++ us) us both ends none)
+from_complete limit some _ _ _ (DerivesFormals.one ts fs d) zero le before all us s ends none = absurd (omega (arith, le))
+from_complete limit some _ _ _ (DerivesFormals.one ts fs d) (suc n) le before all us s ends none = last_formal limit n before fs all us (formal_complete limit some ts fs d all us s ends) none
+from_complete limit some _ _ _ (DerivesFormals.more k ts vs fs gs t d comma e lt) zero le before all us s ends none = absurd (omega (arith, le))
+from_complete limit some _ _ _ (DerivesFormals.more k ts vs fs gs t d comma e lt) (suc n) le before all us s ends none =
+    next_formal limit n before fs gs t all (vs ++ us) us (formal_complete limit some ts fs d all (t ∷ (vs ++ us)) (unglue ts (t ∷ vs) s) (part_at kind.Comma refl t (vs ++ us) comma)) comma
+    (from_complete limit some k vs gs e n (omega (arith, le)) (before ++ fs) (vs ++ us) us both ends none)
 
 formal_some : (limit : Limit) (ts : Tokens) (fs : List Formal) → DerivesFormal limit ts fs → 1 ≤ length ts
 formal_some limit _ _ (DerivesFormal.types ts vs ws nonempty t d colon e) = omega (arith, length-append ts (t ∷ vs))
@@ -163,10 +163,10 @@ formals_goes limit k ts fs u all us lt d close s =
     let few = formals_few limit lt k ts fs d in
     let size : length all ≡ length (ts ++ u ∷ us) = ap length s.same in
     has_room limit outermost (inside outermost) all _ lt
-    (then_ _ (from_complete limit k ts fs d (entries limit all) (enough_entries limit k all few.0 (omega (arith, few.1, size, length-append ts (u ∷ us)))) [] all (u ∷ us) s (part_at kind.CloseBracket refl u us close) (bracket_comma u us close))
+    (then_ _ (from_complete limit lt k ts fs d (entries limit all) (enough_entries limit k all few.0 (omega (arith, few.1, size, length-append ts (u ∷ us)))) [] all (u ∷ us) s (part_at kind.CloseBracket refl u us close) (bracket_comma u us close))
     (takes kind.CloseBracket u us _ close found))
 
-pub formal_part_complete : (limit : Limit) (ts : Tokens) (fs : List Formal) → DerivesFormalPart limit ts fs → (us : Tokens) → after kind.OpenBracket us ≡ None → Gets (formal_part limit (ts ++ us)) (fs, us)
-formal_part_complete limit _ _ DerivesFormalPart.none us none = absent _ none found
-formal_part_complete limit _ _ (DerivesFormalPart.formals n ts fs t u is lt d close) us none =
-    there _ _ (after_is kind.OpenBracket t ((ts ++ u ∷ []) ++ us) is) (formals_goes limit n ts fs u ((ts ++ u ∷ []) ++ us) us lt d close (unglue ts (u ∷ []) both))
+pub formal_part_complete : (limit : Limit) (ts : Tokens) (fs : List Formal) → DerivesFormalPart limit ts fs → (all us : Tokens) → Splits all ts us → after kind.OpenBracket us ≡ None → Gets (formal_part limit all) (fs, us)
+formal_part_complete limit _ _ DerivesFormalPart.none all us s shut = from (λ z. formal_part limit z) s (absent _ shut found)
+formal_part_complete limit _ _ (DerivesFormalPart.formals n ts fs t u is lt d close) all us s shut =
+    from (λ z. formal_part limit z) s (there _ _ (after_is kind.OpenBracket t ((ts ++ u ∷ []) ++ us) is) (formals_goes limit n ts fs u ((ts ++ u ∷ []) ++ us) us lt d close (unglue ts (u ∷ []) both)))

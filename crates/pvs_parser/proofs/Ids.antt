@@ -26,9 +26,9 @@ NameFront ts p = (t : Terminal) × (ts ≡ t ∷ p.2) × IsId t × (t.word ≡ p
 name_sound : (l : Nesting) (ts : Tokens) → Yields (name l ts) (NameFront ts)
 name_sound l ts = id_bind ts _ (λ t us e is. here (t, e, is, refl))
 
-one_name : (limit : Limit) (n : ℕ) → AtMost limit (suc n) → (before : List Word) (ts : Tokens) (p : Word × Nesting × Tokens) → NameFront ts p → NamesFront limit (suc n) before ts (before ++ p.0 ∷ [], p.1, p.2)
-one_name limit n most before ts p f =
-    (p.0 ∷ [], f.0 ∷ [], alone f.1, refl, omega arith, subst (λ z. DerivesIds limit (f.0 ∷ []) (z ∷ [])) f.3 (DerivesIds.one f.0 f.2 (below_at_most limit n 0 most (omega arith))))
+one_name : (limit : Limit) (n : ℕ) (before : List Word) (ts : Tokens) (p : Word × Nesting × Tokens) → NameFront ts p → NamesFront limit (suc n) before ts (before ++ p.0 ∷ [], p.1, p.2)
+one_name limit n before ts p f =
+    (p.0 ∷ [], f.0 ∷ [], alone f.1, refl, omega arith, subst (λ z. DerivesIds limit (f.0 ∷ []) (z ∷ [])) f.3 (DerivesIds.one f.0 f.2))
 
 more_names : (limit : Limit) (n : ℕ) → AtMost limit (suc n) → (before : List Word) (ts : Tokens) (p : Word × Nesting × Tokens) → NameFront ts p → (us : Tokens) → Comes kind.Comma p.2 us
     → (q : List Word × Nesting × Tokens) → NamesFront limit n (before ++ p.0 ∷ []) us q → NamesFront limit (suc n) before ts q
@@ -47,7 +47,7 @@ from_sound limit zero most before l ts = crowded_yields ts (name l ts)
 from_sound limit (suc n) most before l ts =
     bind (name_sound l ts) (λ p f. cases
     (λ us a. weaken (λ q g. more_names limit n most before ts p f us ((after_yields kind.Comma p.2).holds us a) q g) (from_sound limit n (fewer limit n most) (before ++ p.0 ∷ []) (cleared p.1) us))
-    (λ a. here (one_name limit n most before ts p f)))
+    (λ a. here (one_name limit n before ts p f)))
 
 pub ids_sound : (limit : Limit) (ts : Tokens) → Yields (ids limit ts) (Fore (DerivesIds limit) ts)
 ids_sound limit ts =
@@ -70,34 +70,34 @@ next_name n before ws t u all us is comma g =
 
 from_complete : (limit : Limit) (ts : Tokens) (ws : List Word) → DerivesIds limit ts ws → (n : ℕ) → length ws ≤ n → (before : List Word) (us : Tokens) → after kind.Comma us ≡ None
     → Gets (list_from name n before outermost (ts ++ us)) (before ++ ws, outermost, us)
-from_complete limit _ _ (DerivesIds.one t is lt) zero le before us none = absurd (omega (arith, le))
-from_complete limit _ _ (DerivesIds.one t is lt) (suc n) le before us none = last_name n before t us is none
+from_complete limit _ _ (DerivesIds.one t is) zero le before us none = absurd (omega (arith, le))
+from_complete limit _ _ (DerivesIds.one t is) (suc n) le before us none = last_name n before t us is none
 from_complete limit _ _ (DerivesIds.more t u ts ws is comma d lt) zero le before us none = absurd (omega (arith, le))
 from_complete limit _ _ (DerivesIds.more t u ts ws is comma d lt) (suc n) le before us none =
     next_name n before ws t u (ts ++ us) us is comma (from_complete limit ts ws d n (omega (arith, le)) (before ++ t.word ∷ []) us none)
 
-ids_few : (limit : Limit) (ts : Tokens) (ws : List Word) → DerivesIds limit ts ws → AtMost limit (length ws) × (length ws ≤ length ts)
-ids_few limit _ _ (DerivesIds.one t is lt) = (one_more limit 0 lt, omega arith)
-ids_few limit _ _ (DerivesIds.more t u ts ws is comma d lt) = (one_more limit (length ws) lt, omega (arith, (ids_few limit ts ws d).1))
+ids_few : (limit : Limit) → IsBelow limit 0 → (ts : Tokens) (ws : List Word) → DerivesIds limit ts ws → AtMost limit (length ws) × (length ws ≤ length ts)
+ids_few limit some _ _ (DerivesIds.one t is) = (one_more limit 0 some, omega arith)
+ids_few limit some _ _ (DerivesIds.more t u ts ws is comma d lt) = (one_more limit (length ws) lt, omega (arith, (ids_few limit some ts ws d).1))
 
-ids_go : (limit : Limit) (ts : Tokens) (ws : List Word) → DerivesIds limit ts ws → (us : Tokens) → after kind.Comma us ≡ None → Gets (ids limit (ts ++ us)) (ws, us)
-ids_go limit ts ws d us none =
-    let few = ids_few limit ts ws d in
+ids_go : (limit : Limit) → IsBelow limit 0 → (ts : Tokens) (ws : List Word) → DerivesIds limit ts ws → (us : Tokens) → after kind.Comma us ≡ None → Gets (ids limit (ts ++ us)) (ws, us)
+ids_go limit some ts ws d us none =
+    let few = ids_few limit some ts ws d in
     then_ _ (from_complete limit ts ws d (entries limit (ts ++ us)) (enough_entries limit (length ws) (ts ++ us) few.0 (omega (arith, few.1, length-append ts us))) [] us none) found
 
-pub ids_complete : (limit : Limit) (ts : Tokens) (ws : List Word) → DerivesIds limit ts ws → (all us : Tokens) → Splits all ts us → after kind.Comma us ≡ None → Gets (ids limit all) (ws, us)
-ids_complete limit ts ws d all us s none = from (λ z. ids limit z) s (ids_go limit ts ws d us none)
+pub ids_complete : (limit : Limit) → IsBelow limit 0 → (ts : Tokens) (ws : List Word) → DerivesIds limit ts ws → (all us : Tokens) → Splits all ts us → after kind.Comma us ≡ None → Gets (ids limit all) (ws, us)
+ids_complete limit some ts ws d all us s none = from (λ z. ids limit z) s (ids_go limit some ts ws d us none)
 
 -- names begin with an identifier
 pub ids_begin : (limit : Limit) (ts : Tokens) (ws : List Word) → DerivesIds limit ts ws → (t : Terminal) × (vs : Tokens) × (ts ≡ t ∷ vs) × IsId t
-ids_begin limit _ _ (DerivesIds.one t is lt) = (t, [], refl, is)
+ids_begin limit _ _ (DerivesIds.one t is) = (t, [], refl, is)
 ids_begin limit _ _ (DerivesIds.more t u ts ws is comma d lt) = (t, u ∷ ts, refl, is)
 
 ids_some : (limit : Limit) (ts : Tokens) (ws : List Word) → DerivesIds limit ts ws → ws ≡ [] → ⊥
-ids_some limit _ _ (DerivesIds.one t is lt) e = cc
+ids_some limit _ _ (DerivesIds.one t is) e = cc
 ids_some limit _ _ (DerivesIds.more t u ts ws is comma d lt) e = cc
 
 -- one name alone
-pub ids_one : (limit : Limit) (ts : Tokens) (ws : List Word) → DerivesIds limit ts ws → (w : Word) → ws ≡ w ∷ [] → (t : Terminal) × (ts ≡ t ∷ []) × IsId t × (t.word ≡ w) × IsBelow limit 0
-ids_one limit _ _ (DerivesIds.one t is lt) w e = (t, refl, is, cc, lt)
+pub ids_one : (limit : Limit) (ts : Tokens) (ws : List Word) → DerivesIds limit ts ws → (w : Word) → ws ≡ w ∷ [] → (t : Terminal) × (ts ≡ t ∷ []) × IsId t × (t.word ≡ w)
+ids_one limit _ _ (DerivesIds.one t is) w e = (t, refl, is, cc)
 ids_one limit _ _ (DerivesIds.more t u ts ws is comma d lt) w e = absurd (ids_some limit ts ws d cc)

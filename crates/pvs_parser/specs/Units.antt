@@ -58,7 +58,7 @@ spelling text w = take (w.end - w.start) (drop w.start text)
 
 -- ids = id { "," id }, and no more than the limit
 pub data DerivesIds (limit : Limit) : Tokens → List Word → Type 0 where
-  one : (t : Terminal) → IsId t → IsBelow limit 0 → DerivesIds limit (t ∷ []) (t.word ∷ [])
+  one : (t : Terminal) → IsId t → DerivesIds limit (t ∷ []) (t.word ∷ [])
   more : (t u : Terminal) (ts : Tokens) (ws : List Word) → IsId t → Is kind.Comma u → DerivesIds limit ts ws → IsBelow limit (length ws) → DerivesIds limit (t ∷ u ∷ ts) (t.word ∷ ws)
 
 -- TYPE [ "+" ] | NONEMPTY_TYPE, and whether the type is declared nonempty
