@@ -5,3 +5,5 @@ pub mod DescentSteps
 pub mod Nonempty
 pub mod Heads
 pub mod DescentSound
+pub mod Gets
+pub mod DescentComplete
