@@ -7,3 +7,5 @@ pub mod Heads
 pub mod DescentSound
 pub mod Gets
 pub mod DescentComplete
+pub mod OneExpression
+pub mod Worked
