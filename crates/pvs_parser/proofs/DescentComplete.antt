@@ -22,7 +22,7 @@ use Rattle.pvs_syntax.specs.declared.expression.TypeExpr.{TypeExpr}
 use Rattle.pvs_syntax.specs.declared.expression.TypeExpr.TheVariants as type_expr
 use Rattle.pvs_parser.specs.Terminals.{Is, IsId, is_id, same_kind}
 use Rattle.pvs_parser.specs.Language.{Limit, Tokens, IsBelow, HasRoom, level, Derives, Ending, Plain, Bound, Form, Item, Nonterminal, form, item, list, name, inst, type_, Tree, ItemTree, tighter, qualified, sign, comparison, inside, cleared, marked, held, before_call, binder_word, grouped}
-use Rattle.pvs_parser.specs.Descent.{Answer, Read, Go, ◌>>=◌, after, prefix, prefix_of_binder, begins, begins_of, compares, compares_of, labels, labels_of, comes_type, entries, list_from, list_with, framed_with, name_after, name_term_with, name_type_with, first_of, first_with, call_mark, call_with, project, term_from, term_with, prefixed_with, binder_with, compared_from, operand_with, between_with, chain_with, cond_with, otherwise_of, otherwise_with, type_of, type_with, parameter_of, parameter_with, component_with, variable_with, bare_variable, definition_with, item_with}
+use Rattle.pvs_parser.specs.Descent.{Answer, Read, Go, ◌>>=◌, after, prefix, prefix_of_binder, begins, begins_of, compares, compares_of, labels, labels_of, comes_type, entries, list_from, list_with, framed_with, name_after, name_term_with, name_type_with, first_of, first_with, call_mark, call_with, project, term_from, term_with, prefixed_with, binder_with, compared_from, operand_with, between_with, chain_with, cond_with, otherwise_of, otherwise_with, type_of, type_with, parameter_of, parameter_with, component_with, variable_with, bare_variable, definition_with, item_with, step, reader}
 use Rattle.pvs_parser.proofs.Follows.{pull, pull_of, Ends, FormStops, ItemStops}
 use Rattle.pvs_parser.proofs.Gets.{Gets, found, then_, there, absent, has_room, takes, names, numbers, after_is, after_other, both, unglue, from}
 use Rattle.pvs_parser.proofs.Nonempty.{nonempty}
@@ -99,7 +99,7 @@ Fits s n ts = length ts ≤ n
 -- ---- what stops a form
 
 -- a terminal with which no name goes on
-abbrev plain : TerminalKind → Bool
+abbrev pub plain : TerminalKind → Bool
 plain kind.Dot = false
 plain kind.OpenBracket = false
 plain kind.Colon = false
@@ -112,15 +112,15 @@ plain_no kind.OpenBracket e = cc
 plain_no kind.Colon e = cc
 plain_no _ e = (refl, refl, refl)
 
-ends_at : (k : TerminalKind) → plain k ≡ true → (t : Terminal) (us : Tokens) → Is k t → Ends (t ∷ us)
+pub ends_at : (k : TerminalKind) → plain k ≡ true → (t : Terminal) (us : Tokens) → Is k t → Ends (t ∷ us)
 ends_at k e t us is =
     let f = plain_no k e in
     (after_other kind.Dot k t us is f.0, after_other kind.OpenBracket k t us is f.1, after_other kind.Colon k t us is f.2)
 
-pull_at : (k : TerminalKind) (n : ℕ) → pull k < n → (t : Terminal) (us : Tokens) → Is k t → pull_of (t ∷ us) < n
+pub pull_at : (k : TerminalKind) (n : ℕ) → pull k < n → (t : Terminal) (us : Tokens) → Is k t → pull_of (t ∷ us) < n
 pull_at k n lt t us is = subst (λ z. z < n) (sym (ap pull is)) lt
 
-item_stops : (i : Item) (us : Tokens) → pull_of us < 1 → Ends us → ItemStops i us
+pub item_stops : (i : Item) (us : Tokens) → pull_of us < 1 → Ends us → ItemStops i us
 item_stops Item.Expression us lt e = (lt, e)
 item_stops Item.Parameter us lt e = (lt, e)
 item_stops Item.Definition us lt e = (lt, e)
@@ -129,10 +129,10 @@ item_stops Item.Variable us lt e = e
 item_stops Item.BareVariable us lt e = tt
 
 -- a terminal that ends an item
-abbrev IsEnd : TerminalKind → Type 0
+abbrev pub IsEnd : TerminalKind → Type 0
 IsEnd k = (plain k ≡ true) × (pull k < 1)
 
-stops_at : (i : Item) (k : TerminalKind) → IsEnd k → (t : Terminal) (us : Tokens) → Is k t → ItemStops i (t ∷ us)
+pub stops_at : (i : Item) (k : TerminalKind) → IsEnd k → (t : Terminal) (us : Tokens) → Is k t → ItemStops i (t ∷ us)
 stops_at i k end t us is = item_stops i (t ∷ us) (pull_at k 1 end.1 t us is) (ends_at k end.0 t us is)
 
 pub whole_stops : (e : Ending) (us : Tokens) → pull_of us < 1 → Ends us → FormStops (Form.Chain connective.Iff e) us
@@ -190,7 +190,7 @@ is_comparison _ w e = cc
 
 -- ---- lengths
 
-splits_front : {all ts us : Tokens} → Splits all ts us → length ts ≤ length all
+pub splits_front : {all ts us : Tokens} → Splits all ts us → length ts ≤ length all
 splits_front {all = all} {ts = ts} {us = us} s = let e : length all ≡ length (ts ++ us) = ap length s.same in omega (arith, e, length-append ts us)
 
 -- ---- lists
@@ -323,11 +323,11 @@ prefix_binder kind.Not w e = cc
 prefix_binder kind.Let w e = cc
 prefix_binder _ w e = ap prefix_of_binder e
 
-no_comma_close : same_kind kind.Close kind.Comma ≡ false
+pub no_comma_close : same_kind kind.Close kind.Comma ≡ false
 unfolding same_kind
 no_comma_close = refl
 
-no_comma_bracket : same_kind kind.CloseBracket kind.Comma ≡ false
+pub no_comma_bracket : same_kind kind.CloseBracket kind.Comma ≡ false
 unfolding same_kind
 no_comma_bracket = refl
 
@@ -679,3 +679,27 @@ complete go n g _ _ _ _ _ (Derives.typed_part e l k m ts us a x t u v is colon d
     λ all rest s stop. from (λ z. definition_with go l z) s (names t (u ∷ ((ts ++ v ∷ us) ++ rest)) _ is (there _ _ (after_is kind.Colon u ((ts ++ v ∷ us) ++ rest) colon)
     (then_ _ (g.type l ts a k d (omega (arith, fits, length-append ts (v ∷ us))) ((ts ++ v ∷ us) ++ rest) (v ∷ (us ++ rest)) (unglue ts (v ∷ us) both) (ends_at kind.Equal refl v (us ++ rest) equal))
     (takes kind.Equal v (us ++ rest) _ equal (then_ _ (g.chain connective.Iff e k us x m f (omega (arith, fits, length-append ts (v ∷ us))) (us ++ rest) rest both (whole_stops e rest stop.0 stop.1)) found)))))
+
+-- ---- the whole
+
+too_small : (ts : Tokens) → length ts < 0 → ⊥
+too_small ts lt = omega (arith, lt)
+
+step_complete : (go : Go) (a : ℕ) → GoComplete go a → GoComplete (step go) (suc a)
+step_complete go a g = record {
+  chain = λ c e l ts x m d lt all us s stop. complete go a g (form (Form.Chain c e)) l ts x m d (omega (arith, lt)) all us s stop;
+  operand = λ e l ts x m d lt all us s stop. complete go a g (form (Form.Operand e)) l ts x m d (omega (arith, lt)) all us s stop;
+  otherwise = λ l ts x m d lt all us s. (complete go a g (form Form.Otherwise) l ts x m d (omega (arith, lt))).1 all us s;
+  type = λ l ts x m d lt all us s stop. (complete go a g type_ l ts x m d (omega (arith, lt)) all us s stop).1;
+}
+
+-- what is shorter than the number of steps is read
+pub reader_complete : (limit : Limit) (a : ℕ) → GoComplete (reader limit a) a
+unfolding reader
+reader_complete limit zero = record {
+  chain = λ c e l ts x m d lt all us s stop. absurd (too_small ts lt);
+  operand = λ e l ts x m d lt all us s stop. absurd (too_small ts lt);
+  otherwise = λ l ts x m d lt all us s. absurd (too_small ts lt);
+  type = λ l ts x m d lt all us s stop. absurd (too_small ts lt);
+}
+reader_complete limit (suc a) = step_complete (reader limit a) a (reader_complete limit a)

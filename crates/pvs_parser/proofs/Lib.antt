@@ -7,5 +7,6 @@ pub mod Heads
 pub mod DescentSound
 pub mod Gets
 pub mod DescentComplete
+pub mod Wholes
 pub mod OneExpression
 pub mod Worked

@@ -1,37 +1,12 @@
 -- Tokens are read as an expression exactly where they are one, and they are at most one.
-use Rattle.std.proofs.Common.{◌≡◌, ◌∙◌, ℕ, zero, suc, ◌+◌, ◌<◌, [], ◌∷◌, ◌++◌, length, Ok, refl, sym, ap, subst, append-nil, arith}
+use Rattle.std.proofs.Common.{◌≡◌, ◌∙◌, ◌+◌, [], ◌∷◌, ◌++◌, length, Ok, refl, sym, ap, subst, append-nil, arith}
 use Rattle.pvs_parser.specs.declared.nesting.Nesting.{Nesting}
-use Rattle.pvs_parser.specs.declared.start.Start.TheVariants as start
-use Rattle.pvs_parser.specs.declared.terminal.Connective.TheVariants as connective
 use Rattle.pvs_syntax.specs.declared.expression.Expr.{Expr}
-use Rattle.pvs_parser.specs.Language.{Limit, Tokens, Derives, Ending, Form, form, type_, bounded, outermost, whole, ReadsExpr}
-use Rattle.pvs_parser.specs.Descent.{Answer, Go, ended, expression, step, reader}
+use Rattle.pvs_parser.specs.Language.{Limit, Tokens, Derives, Ending, bounded, outermost, whole, ReadsExpr}
+use Rattle.pvs_parser.specs.Descent.{Answer, ended, expression}
 use Rattle.pvs_parser.proofs.Yields.{Yields, here, none, bind, weaken}
 use Rattle.pvs_parser.proofs.Gets.{then_, found}
-use Rattle.pvs_parser.proofs.DescentSound.{reader_limit, reader_sound}
-use Rattle.pvs_parser.proofs.DescentComplete.{GoComplete, complete, whole_stops}
-
-too_small : (ts : Tokens) → length ts < 0 → ⊥
-too_small ts lt = omega (arith, lt)
-
-step_complete : (go : Go) (a : ℕ) → GoComplete go a → GoComplete (step go) (suc a)
-step_complete go a g = record {
-  chain = λ c e l ts x m d lt all us s stop. complete go a g (form (Form.Chain c e)) l ts x m d (omega (arith, lt)) all us s stop;
-  operand = λ e l ts x m d lt all us s stop. complete go a g (form (Form.Operand e)) l ts x m d (omega (arith, lt)) all us s stop;
-  otherwise = λ l ts x m d lt all us s. (complete go a g (form Form.Otherwise) l ts x m d (omega (arith, lt))).1 all us s;
-  type = λ l ts x m d lt all us s stop. (complete go a g type_ l ts x m d (omega (arith, lt)) all us s stop).1;
-}
-
--- what is shorter than the number of steps is read
-pub reader_complete : (limit : Limit) (a : ℕ) → GoComplete (reader limit a) a
-unfolding reader
-reader_complete limit zero = record {
-  chain = λ c e l ts x m d lt all us s stop. absurd (too_small ts lt);
-  operand = λ e l ts x m d lt all us s stop. absurd (too_small ts lt);
-  otherwise = λ l ts x m d lt all us s. absurd (too_small ts lt);
-  type = λ l ts x m d lt all us s stop. absurd (too_small ts lt);
-}
-reader_complete limit (suc a) = step_complete (reader limit a) a (reader_complete limit a)
+use Rattle.pvs_parser.proofs.Wholes.{read_expr_sound, read_expr_complete, nothing_follows}
 
 ended_yields : (x : Expr) (us : Tokens) → Yields (ended x us) (λ y. (us ≡ []) × (x ≡ y))
 ended_yields x [] = here (refl, refl)
@@ -47,17 +22,14 @@ made limit e ts vs x y m us split none same d =
 
 sound : (limit : Limit) (ts : Tokens) → Yields (expression limit ts) (λ x. Whole limit ts x)
 sound limit ts =
-    bind (reader_sound limit (length ts + 1) (start.Chain connective.Iff) outermost ts)
-    (λ p f. weaken (λ y g. made limit f.0 ts f.1 p.0 y p.1 p.2 f.2.same g.0 g.1 f.3) (ended_yields p.0 p.2))
+    bind (read_expr_sound limit (length ts + 1) outermost ts) (λ p f. weaken (λ y g. made limit f.0 ts f.1 p.0 y p.1 p.2 f.2.same g.0 g.1 f.3) (ended_yields p.0 p.2))
 
 pub expression_sound : (limit : Limit) (ts : Tokens) (x : Expr) → expression limit ts ≡ Ok x → Whole limit ts x
 expression_sound limit ts x e = (sound limit ts).holds x e
 
 pub expression_complete : (limit : Limit) (ts : Tokens) (x : Expr) → Whole limit ts x → expression limit ts ≡ Ok x
 expression_complete limit ts x r =
-    let d = subst (λ z. Derives z (whole r.0) outermost ts x r.1) (sym (reader_limit limit (length ts + 1))) r.2 in
-    (then_ (λ p. ended p.0 p.2) ((reader_complete limit (length ts + 1)).chain connective.Iff r.0 outermost ts x r.1 d (omega arith) ts [] (record { same = sym (append-nil ts) })
-    (whole_stops r.0 [] (omega arith) (refl, refl, refl))) found).is
+    (then_ (λ p. ended p.0 p.2) (read_expr_complete limit (length ts + 1) r.0 outermost ts x r.1 r.2 (omega arith) ts [] (record { same = sym (append-nil ts) }) nothing_follows.0 nothing_follows.1) found).is
 
 abbrev answer : {A : Type 0} → Answer A → Answer A
 answer o = o
