@@ -116,13 +116,6 @@ pub equal_ends : (t : Terminal) (us : Tokens) → Is kind.Equal t → Ends (t �
 equal_ends t us is =
     (after_other kind.Dot kind.Equal t us is equal_facts.0, after_other kind.OpenBracket kind.Equal t us is equal_facts.1, after_other kind.Colon kind.Equal t us is equal_facts.2)
 
--- the first terminal of a type
-abbrev pub starts_type : TerminalKind → Bool
-starts_type kind.Open = true
-starts_type kind.OpenBrace = true
-starts_type kind.OpenBracket = true
-starts_type k = is_id k
-
 -- ---- single signs
 
 colon_no_comma : same_kind kind.Colon kind.Comma ≡ false

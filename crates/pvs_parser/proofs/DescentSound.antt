@@ -168,10 +168,10 @@ list_with_sound go sound i l ts =
     (list_sound i (item_with go i) (λ l ts. item_sound go sound i l ts) (entries go.limit ts) (entries_at_most go.limit ts) [] l ts)
 
 -- a list, and the sign that ends its frame
-abbrev Framed : Limit → (i : Item) → TerminalKind → Nesting → Tokens → List (ItemTree i) × Tokens → Type 0
+abbrev pub Framed : Limit → (i : Item) → TerminalKind → Nesting → Tokens → List (ItemTree i) × Tokens → Type 0
 Framed limit i end l ts p = (vs : Tokens) × (u : Terminal) × (k : Nesting) × Splits ts (vs ++ u ∷ []) p.1 × HasRoom limit l × Derives limit (list i) (inside l) vs p.0 k × Is end u
 
-framed_sound : (go : Go) → Sound go → (i : Item) (end : TerminalKind) (l : Nesting) (ts : Tokens) → Yields (framed_with go i end l ts) (Framed go.limit i end l ts)
+pub framed_sound : (go : Go) → Sound go → (i : Item) (end : TerminalKind) (l : Nesting) (ts : Tokens) → Yields (framed_with go i end l ts) (Framed go.limit i end l ts)
 framed_sound go sound i end l ts =
     room go.limit l (inside l) ts _ (λ lt. bind (list_with_sound go sound i (inside l) ts) (λ p f. bind (expect_yields end p.2) (λ us a. here (f.0, a.0, p.1, glue f.1 (alone a.1), lt, f.2, a.2))))
 
@@ -362,7 +362,7 @@ reach_whole : (e : Ending) → reach (Form.Chain connective.Iff e) ≡ 1
 reach_whole Plain = refl
 reach_whole Bound = refl
 
-whole_ends : (e : Ending) (us : Tokens) → pull_of us < reach (Form.Chain connective.Iff e) → pull_of us < 1
+pub whole_ends : (e : Ending) (us : Tokens) → pull_of us < reach (Form.Chain connective.Iff e) → pull_of us < 1
 whole_ends e us lt = subst (λ z. pull_of us < z) (reach_whole e) lt
 
 abbrev PrefixedFront : Limit → Nesting → Tokens → Expr × Nesting × Tokens → Type 0

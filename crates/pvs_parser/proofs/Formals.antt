@@ -18,8 +18,9 @@ use Rattle.pvs_parser.proofs.DescentSteps.{Comes, after_yields, expect_yields, r
 use Rattle.pvs_parser.proofs.DescentSound.{crowded_yields}
 use Rattle.pvs_parser.proofs.Deeper.{Fore, type_sound, type_complete}
 use Rattle.pvs_parser.proofs.Ids.{ids_sound, ids_complete}
-use Rattle.pvs_parser.proofs.Behind.{PartEnds, part_whole, part_plus, part_at, starts_type, colon_comma, bracket_comma}
-use Rattle.pvs_parser.proofs.TypeHeads.{type_begins}
+use Rattle.pvs_parser.proofs.Behind.{PartEnds, part_whole, part_plus, part_at, colon_comma, bracket_comma}
+use Rattle.pvs_parser.proofs.Heads.{starts_type}
+use Rattle.pvs_parser.proofs.Wholes.{type_first}
 
 -- ---- TYPE, with a plus or without
 
@@ -119,7 +120,7 @@ formal_type limit ws t ts _ e = refl
 
 formal_constants : (limit : Limit) (ts : Tokens) (a : TypeExpr) (m : Nesting) → Derives limit type_ (inside outermost) ts a m → (ws : List Word) (us : Tokens) → PartEnds us → Gets (formal_after limit ws (ts ++ us)) (map (const_formal a) ws, us)
 formal_constants limit ts a m d ws us ends =
-    let b = type_begins limit (inside outermost) ts a m d in
+    let b = type_first (inside outermost) ts a m d in
     let g : Gets (type limit (inside outermost) (b.0 ∷ (b.1 ++ us))) (a, us) =
     subst (λ z. Gets (type limit (inside outermost) (z ++ us)) (a, us)) b.2 (type_complete limit (inside outermost) ts a (m, d) (ts ++ us) us both (part_whole us ends).1) in
     subst (λ z. Gets (formal_after limit ws (z ++ us)) (map (const_formal a) ws, us)) (sym b.2)

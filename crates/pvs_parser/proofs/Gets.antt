@@ -1,11 +1,11 @@
 -- What answers there are, forwards.
-use Rattle.std.proofs.Common.{◌≡◌, ◌∙◌, ℕ, Bool, true, false, if◌then◌else◌, List, [], ◌∷◌, ◌++◌, Option, Some, None, Ok, refl, sym, ap, subst, append_assoc}
+use Rattle.std.proofs.Common.{◌≡◌, ◌∙◌, false, if◌then◌else◌, ◌∷◌, ◌++◌, Option, Some, None, Ok, refl, sym, ap, subst, append_assoc}
 use Rattle.pvs_parser.specs.declared.nesting.Nesting.{Nesting}
 use Rattle.pvs_parser.specs.declared.terminal.Terminal.{Terminal}
 use Rattle.pvs_parser.specs.declared.terminal.TerminalKind.{TerminalKind}
 use Rattle.pvs_parser.specs.declared.terminal.TerminalKind.TheVariants as kind
 use Rattle.pvs_syntax.specs.declared.word.Word.{Word}
-use Rattle.pvs_parser.specs.Terminals.{Is, IsId, is_id, same_kind}
+use Rattle.pvs_parser.specs.Terminals.{Is, IsId, same_kind}
 use Rattle.pvs_parser.specs.Language.{Limit, Tokens, HasRoom, level}
 use Rattle.pvs_parser.specs.Descent.{Answer, ◌>>=◌, either, stop, after, expect, id, number, with_room, too_deep}
 use Rattle.pvs_parser.proofs.DescentSteps.{same_is, is_below_is, Splits}

@@ -1,12 +1,12 @@
 -- The first terminal of a form.
-use Rattle.std.proofs.Common.{◌≡◌, true, false, [], ◌∷◌, ◌++◌, refl, ap, Some}
+use Rattle.std.proofs.Common.{◌≡◌, Bool, true, false, [], ◌∷◌, ◌++◌, refl, ap, Some}
 use Rattle.pvs_parser.specs.declared.nesting.Nesting.{Nesting}
 use Rattle.pvs_parser.specs.declared.terminal.Terminal.{Terminal}
 use Rattle.pvs_parser.specs.declared.terminal.TerminalKind.{TerminalKind}
 use Rattle.pvs_parser.specs.declared.terminal.TerminalKind.TheVariants as kind
 use Rattle.pvs_syntax.specs.declared.expression.BinderWord.{BinderWord}
 use Rattle.pvs_parser.specs.Terminals.{IsId, is_id}
-use Rattle.pvs_parser.specs.Language.{Limit, Tokens, Derives, Plain, Form, Item, Nonterminal, form, item, list, name, inst, Tree, tighter, begins_type, binder_word}
+use Rattle.pvs_parser.specs.Language.{Limit, Tokens, Derives, Plain, Form, Item, Nonterminal, form, item, list, name, inst, type_, Tree, tighter, begins_type, binder_word}
 
 -- an identifier stands first
 abbrev pub IdFirst : Tokens → Type 0
@@ -16,10 +16,23 @@ IdFirst ts = (t : Terminal) × (us : Tokens) × (ts ≡ t ∷ us) × IsId t
 abbrev pub NoTypeFirst : Tokens → Type 0
 NoTypeFirst ts = (t : Terminal) × (us : Tokens) × (ts ≡ t ∷ us) × (begins_type t.kind ≡ false)
 
+-- a terminal that may begin a type
+abbrev pub starts_type : TerminalKind → Bool
+starts_type kind.Id = true
+starts_type kind.Proof = true
+starts_type kind.Open = true
+starts_type kind.OpenBracket = true
+starts_type kind.OpenBrace = true
+starts_type _ = false
+
+abbrev pub TypeFirst : Tokens → Type 0
+TypeFirst ts = (t : Terminal) × (us : Tokens) × (ts ≡ t ∷ us) × (starts_type t.kind ≡ true)
+
 abbrev pub Heads : Nonterminal → Tokens → Type 0
 Heads (form f) ts = NoTypeFirst ts
 Heads name ts = IdFirst ts
 Heads inst ts = IdFirst ts
+Heads type_ ts = TypeFirst ts
 Heads (item Item.BareVariable) ts = IdFirst ts
 Heads (list Item.BareVariable) ts = IdFirst ts
 Heads _ ts = Unit {0}
@@ -28,6 +41,11 @@ id_no_type : (k : TerminalKind) → is_id k ≡ true → begins_type k ≡ false
 id_no_type kind.Id e = refl
 id_no_type kind.Proof e = refl
 id_no_type _ e = cc
+
+id_type : (k : TerminalKind) → is_id k ≡ true → starts_type k ≡ true
+id_type kind.Id e = refl
+id_type kind.Proof e = refl
+id_type _ e = cc
 
 binder_no_type : (k : TerminalKind) (w : BinderWord) → binder_word k ≡ Some w → begins_type k ≡ false
 binder_no_type kind.OpenBracket w e = cc
@@ -83,5 +101,10 @@ heads _ _ _ _ _ (Derives.plain_name l t is) = (t, [], refl, is)
 heads _ _ _ _ _ (Derives.qualified_name l m ts i t u d dot is) = id_front ts (t ∷ u ∷ []) (heads inst l ts i m d)
 heads _ _ _ _ _ (Derives.plain_inst l t is) = (t, [], refl, is)
 heads _ _ _ _ _ (Derives.inst_with l k ts xs t u v is opened lt d close) = (t, _, refl, is)
+heads _ _ _ _ _ (Derives.name_type l m ts x d) = let f = heads name l ts x m d in (f.0, f.1, f.2, id_type f.0.kind f.3)
+heads _ _ _ _ _ (Derives.pred_type l k ts x t u is lt d close) = (t, _, refl, ap starts_type is)
+heads _ _ _ _ _ (Derives.sub_type l k m ts us a x t u v w y is lt id colon d bar e close) = (t, _, refl, ap starts_type is)
+heads _ _ _ _ _ (Derives.tuple_type l k ts b c bs t u is lt d close) = (t, _, refl, ap starts_type is)
+heads _ _ _ _ _ (Derives.fun_type l k m ts us bs a t u v is lt d arrow e close) = (t, _, refl, ap starts_type is)
 heads _ _ _ _ _ (Derives.bare_variable l t is) = (t, [], refl, is)
 heads _ _ _ _ _ _ = tt

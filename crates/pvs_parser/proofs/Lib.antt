@@ -6,8 +6,11 @@ pub mod Nonempty
 pub mod Heads
 pub mod DescentSound
 pub mod Gets
+pub mod DescentComplete
+pub mod Wholes
+pub mod OneExpression
+pub mod Worked
 pub mod Deeper
 pub mod Ids
 pub mod Behind
 pub mod Formals
-pub mod TypeHeads
