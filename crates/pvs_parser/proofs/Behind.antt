@@ -93,6 +93,9 @@ pub decl_comma : (us : Tokens) → DeclEnds us → after kind.Comma us ≡ None
 decl_comma [] e = refl
 decl_comma (t ∷ us) e = other kind.Comma t us (decl_comma_kind t.kind e)
 
+pub decl_bracket : (us : Tokens) → DeclEnds us → after kind.OpenBracket us ≡ None
+decl_bracket us ends = (part_whole us (decl_part us ends)).1.1
+
 pub part_at : (k : TerminalKind) → ends_part k ≡ true → (t : Terminal) (us : Tokens) → Is k t → PartEnds (t ∷ us)
 part_at k e t us is = ap ends_part is ∙ e
 

@@ -14,3 +14,5 @@ pub mod Deeper
 pub mod Ids
 pub mod Behind
 pub mod Formals
+pub mod Instances
+pub mod Decls
