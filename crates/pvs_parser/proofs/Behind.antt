@@ -134,3 +134,26 @@ bracket_no_comma = refl
 
 pub bracket_comma : (t : Terminal) (us : Tokens) → Is kind.CloseBracket t → after kind.Comma (t ∷ us) ≡ None
 bracket_comma t us is = after_other kind.Comma kind.CloseBracket t us is bracket_no_comma
+
+colon_no_open : same_kind kind.Colon kind.Open ≡ false
+unfolding same_kind
+colon_no_open = refl
+
+pub colon_open : (t : Terminal) (us : Tokens) → Is kind.Colon t → after kind.Open (t ∷ us) ≡ None
+colon_open t us is = after_other kind.Open kind.Colon t us is colon_no_open
+
+plus_no_equal : same_kind kind.Plus kind.Equal ≡ false
+unfolding same_kind
+plus_no_equal = refl
+
+pub plus_equal : (t : Terminal) (us : Tokens) → Is kind.Plus t → after kind.Equal (t ∷ us) ≡ None
+plus_equal t us is = after_other kind.Equal kind.Plus t us is plus_no_equal
+
+id_no_importing : (k : TerminalKind) → is_id k ≡ true → same_kind k kind.Importing ≡ false
+unfolding same_kind
+id_no_importing kind.Id e = refl
+id_no_importing kind.Proof e = refl
+id_no_importing _ e = cc
+
+pub id_importing : (t : Terminal) (us : Tokens) → IsId t → after kind.Importing (t ∷ us) ≡ None
+id_importing t us is = other kind.Importing t us (id_no_importing t.kind is)

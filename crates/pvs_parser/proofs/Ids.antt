@@ -1,16 +1,16 @@
 -- Identifiers with commas between them: what is read is in the grammar, and what is in the grammar is read.
-use Rattle.std.proofs.Common.{◌≡◌, ◌∙◌, ℕ, zero, suc, ◌≤◌, List, [], ◌∷◌, ◌++◌, length, Option, Some, None, Ok, refl, sym, ap, subst, append_assoc, append-nil, length-append, arith}
+use Rattle.std.proofs.Common.{◌≡◌, ◌∙◌, ℕ, zero, suc, ◌≤◌, List, [], ◌∷◌, ◌++◌, length, Option, Some, None, Ok, false, refl, sym, ap, subst, append_assoc, append-nil, length-append, arith}
 use Rattle.pvs_parser.specs.declared.nesting.Nesting.{Nesting}
 use Rattle.pvs_parser.specs.declared.terminal.Terminal.{Terminal}
 use Rattle.pvs_parser.specs.declared.terminal.TerminalKind.TheVariants as kind
 use Rattle.pvs_syntax.specs.declared.word.Word.{Word}
-use Rattle.pvs_parser.specs.Terminals.{Is, IsId}
+use Rattle.pvs_parser.specs.Terminals.{Is, IsId, same_kind}
 use Rattle.pvs_parser.specs.Language.{Limit, IsBelow, Tokens, outermost, cleared}
 use Rattle.pvs_parser.specs.Units.{DerivesIds}
 use Rattle.pvs_parser.specs.Descent.{after, entries, list_from}
 use Rattle.pvs_parser.specs.UnitDescent.{name, ids}
 use Rattle.pvs_parser.proofs.Yields.{Yields, here, bind, cases, weaken}
-use Rattle.pvs_parser.proofs.Gets.{Gets, found, then_, there, absent, names, after_is, from}
+use Rattle.pvs_parser.proofs.Gets.{Gets, found, then_, there, absent, names, after_is, after_other, from}
 use Rattle.pvs_parser.proofs.DescentSteps.{Comes, after_yields, id_bind, AtMost, below_at_most, fewer, entries_at_most, one_more, enough_entries, Splits, glue, put, alone}
 use Rattle.pvs_parser.proofs.DescentSound.{crowded_yields}
 use Rattle.pvs_parser.proofs.Deeper.{Fore}
@@ -88,11 +88,6 @@ ids_go limit some ts ws d us none =
 pub ids_complete : (limit : Limit) → IsBelow limit 0 → (ts : Tokens) (ws : List Word) → DerivesIds limit ts ws → (all us : Tokens) → Splits all ts us → after kind.Comma us ≡ None → Gets (ids limit all) (ws, us)
 ids_complete limit some ts ws d all us s none = from (λ z. ids limit z) s (ids_go limit some ts ws d us none)
 
--- names begin with an identifier
-pub ids_begin : (limit : Limit) (ts : Tokens) (ws : List Word) → DerivesIds limit ts ws → (t : Terminal) × (vs : Tokens) × (ts ≡ t ∷ vs) × IsId t
-ids_begin limit _ _ (DerivesIds.one t is) = (t, [], refl, is)
-ids_begin limit _ _ (DerivesIds.more t u ts ws is comma d lt) = (t, u ∷ ts, refl, is)
-
 ids_some : (limit : Limit) (ts : Tokens) (ws : List Word) → DerivesIds limit ts ws → ws ≡ [] → ⊥
 ids_some limit _ _ (DerivesIds.one t is) e = cc
 ids_some limit _ _ (DerivesIds.more t u ts ws is comma d lt) e = cc
@@ -101,3 +96,12 @@ ids_some limit _ _ (DerivesIds.more t u ts ws is comma d lt) e = cc
 pub ids_one : (limit : Limit) (ts : Tokens) (ws : List Word) → DerivesIds limit ts ws → (w : Word) → ws ≡ w ∷ [] → (t : Terminal) × (ts ≡ t ∷ []) × IsId t × (t.word ≡ w)
 ids_one limit _ _ (DerivesIds.one t is) w e = (t, refl, is, cc)
 ids_one limit _ _ (DerivesIds.more t u ts ws is comma d lt) w e = absurd (ids_some limit ts ws d cc)
+
+comma_no_open : same_kind kind.Comma kind.Open ≡ false
+unfolding same_kind
+comma_no_open = refl
+
+-- the first of the names, behind which no parenthesis comes
+pub ids_front : (limit : Limit) (ts : Tokens) (ws : List Word) → DerivesIds limit ts ws → (t : Terminal) × (vs : Tokens) × (ts ≡ t ∷ vs) × IsId t × ((us : Tokens) → after kind.Open us ≡ None → after kind.Open (vs ++ us) ≡ None)
+ids_front limit _ _ (DerivesIds.one t is) = (t, [], refl, is, λ us shut. shut)
+ids_front limit _ _ (DerivesIds.more t u ts ws is comma d lt) = (t, u ∷ ts, refl, is, λ us shut. after_other kind.Open kind.Comma u (ts ++ us) comma comma_no_open)

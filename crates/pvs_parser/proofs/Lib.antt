@@ -16,3 +16,4 @@ pub mod Behind
 pub mod Formals
 pub mod Instances
 pub mod Decls
+pub mod DeclsRead
