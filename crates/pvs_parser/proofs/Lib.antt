@@ -17,3 +17,4 @@ pub mod Formals
 pub mod Instances
 pub mod Decls
 pub mod DeclsRead
+pub mod Many
