@@ -157,3 +157,10 @@ id_no_importing _ e = cc
 
 pub id_importing : (t : Terminal) (us : Tokens) → IsId t → after kind.Importing (t ∷ us) ≡ None
 id_importing t us is = other kind.Importing t us (id_no_importing t.kind is)
+
+colon_no_bracket : same_kind kind.Colon kind.OpenBracket ≡ false
+unfolding same_kind
+colon_no_bracket = refl
+
+pub colon_bracket : (t : Terminal) (us : Tokens) → Is kind.Colon t → after kind.OpenBracket (t ∷ us) ≡ None
+colon_bracket t us is = after_other kind.OpenBracket kind.Colon t us is colon_no_bracket

@@ -18,3 +18,4 @@ pub mod Instances
 pub mod Decls
 pub mod DeclsRead
 pub mod Many
+pub mod Theories
