@@ -19,3 +19,4 @@ pub mod Decls
 pub mod DeclsRead
 pub mod Many
 pub mod Theories
+pub mod Scripts
