@@ -20,3 +20,4 @@ pub mod DeclsRead
 pub mod Many
 pub mod Theories
 pub mod Scripts
+pub mod WholeUnits
