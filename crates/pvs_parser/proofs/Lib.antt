@@ -21,3 +21,5 @@ pub mod Many
 pub mod Theories
 pub mod Scripts
 pub mod WholeUnits
+pub mod Texts
+pub mod ScriptSpans
