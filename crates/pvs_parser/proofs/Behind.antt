@@ -1,12 +1,12 @@
 -- What may follow a formal or a declaration, so that no type and no expression goes on with it.
-use Rattle.std.proofs.Common.{◌≡◌, ◌∙◌, ℕ, ◌<◌, Bool, true, false, if◌then◌else◌, [], ◌∷◌, Some, None, refl, sym, ap, subst, arith}
+use Rattle.std.proofs.Common.{◌≡◌, ◌∙◌, ◌<◌, Bool, true, false, [], ◌∷◌, None, refl, ap, arith}
 use Rattle.pvs_parser.specs.declared.terminal.Terminal.{Terminal}
 use Rattle.pvs_parser.specs.declared.terminal.TerminalKind.{TerminalKind}
 use Rattle.pvs_parser.specs.declared.terminal.TerminalKind.TheVariants as kind
 use Rattle.pvs_parser.specs.Terminals.{Is, IsId, is_id, same_kind}
 use Rattle.pvs_parser.specs.Language.{Tokens}
 use Rattle.pvs_parser.specs.Descent.{after}
-use Rattle.pvs_parser.proofs.Follows.{pull, pull_of, Ends}
+use Rattle.pvs_parser.proofs.Follows.{pull, Ends}
 use Rattle.pvs_parser.proofs.Gets.{after_other}
 use Rattle.pvs_parser.proofs.Deeper.{WholeEnds}
 

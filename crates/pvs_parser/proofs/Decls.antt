@@ -1,5 +1,5 @@
 -- Declarations that are read are in the grammar.
-use Rattle.std.proofs.Common.{◌≡◌, ◌∙◌, ℕ, true, List, [], ◌∷◌, ◌++◌, map, Option, Some, None, Ok, refl, sym, ap, subst}
+use Rattle.std.proofs.Common.{◌≡◌, true, List, [], ◌∷◌, ◌++◌, map, Option, Some, None, Ok, refl, sym, ap, subst}
 use Rattle.pvs_parser.specs.declared.nesting.Nesting.{Nesting}
 use Rattle.pvs_parser.specs.declared.terminal.Terminal.{Terminal}
 use Rattle.pvs_parser.specs.declared.terminal.TerminalKind.{TerminalKind}
@@ -13,11 +13,11 @@ use Rattle.pvs_syntax.specs.declared.unit.FormulaWord.TheVariants as formula_wor
 use Rattle.pvs_parser.specs.Terminals.{Is, IsId}
 use Rattle.pvs_parser.specs.Language as l
 use Rattle.pvs_parser.specs.Language.{Limit, Item, Tokens, Derives, outermost}
-use Rattle.pvs_parser.specs.Units.{DerivesIds, DerivesTypeWord, DerivesVariables, DerivesParameters, DerivesBody, DerivesDecl, DerivesAssumed, type_decl, var_decl, const_decl, formula_of}
-use Rattle.pvs_parser.specs.Descent.{◌>>=◌, after, expect}
+use Rattle.pvs_parser.specs.Units.{DerivesIds, DerivesTypeWord, DerivesVariables, DerivesParameters, DerivesBody, DerivesDecl, DerivesAssumed, const_decl, formula_of}
+use Rattle.pvs_parser.specs.Descent.{◌>>=◌}
 use Rattle.pvs_parser.specs.UnitDescent.{type, plus, variables, body, constant, function, constants, type_definition, type_decls, types, formula, formulas, stated, declared_of, declared, named, begun, declaration, assumed_of, assumed_after, assumed}
 use Rattle.pvs_parser.proofs.Yields.{Yields, here, none, bind, cases, weaken}
-use Rattle.pvs_parser.proofs.DescentSteps.{Comes, after_yields, expect_yields, id_bind, Splits, glue, put, alone, nothing}
+use Rattle.pvs_parser.proofs.DescentSteps.{after_yields, expect_yields, id_bind, Splits, glue, put, alone, nothing}
 use Rattle.pvs_parser.proofs.Deeper.{Fore, expr_sound, type_sound, framed_sound}
 use Rattle.pvs_parser.proofs.Ids.{ids_sound, ids_one}
 use Rattle.pvs_parser.proofs.Formals.{plus_sound}

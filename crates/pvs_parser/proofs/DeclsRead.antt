@@ -1,5 +1,5 @@
 -- Declarations of the grammar are read, whatever follows them that does not go on with them.
-use Rattle.std.proofs.Common.{◌≡◌, ◌∙◌, ℕ, Bool, true, false, List, [], ◌∷◌, ◌++◌, map, Option, Some, None, Ok, refl, sym, ap, subst, append_assoc}
+use Rattle.std.proofs.Common.{◌≡◌, ◌∙◌, Bool, true, List, [], ◌∷◌, ◌++◌, map, Option, Some, None, Ok, refl, sym, ap, subst, append_assoc}
 use Rattle.pvs_parser.specs.declared.nesting.Nesting.{Nesting}
 use Rattle.pvs_parser.specs.declared.terminal.Terminal.{Terminal}
 use Rattle.pvs_parser.specs.declared.terminal.TerminalKind.{TerminalKind}
@@ -15,11 +15,11 @@ use Rattle.pvs_syntax.specs.declared.unit.FormulaWord.TheVariants as formula_wor
 use Rattle.pvs_parser.specs.Terminals.{Is, IsId, is_id}
 use Rattle.pvs_parser.specs.Language.{Limit, IsBelow, Tokens, Derives, type_, outermost}
 use Rattle.pvs_parser.specs.Units.{DerivesIds, DerivesTypeWord, DerivesImporting, DerivesVariables, DerivesParameters, DerivesBody, DerivesDecl, DerivesAssumed, type_decl, var_decl, const_decl, formula_of}
-use Rattle.pvs_parser.specs.Descent.{Answer, ◌>>=◌, after, expect}
-use Rattle.pvs_parser.specs.UnitDescent.{type, plus, variables, body, constant, function, constants, type_decls, types, formula, stated, declared_of, declared, named, begun, declaration, assumed_of, assumed_after, assumed, comes_kind}
+use Rattle.pvs_parser.specs.Descent.{Answer, after}
+use Rattle.pvs_parser.specs.UnitDescent.{type, variables, body, constant, constants, type_decls, types, formula, stated, declared_of, declared, named, declaration, assumed_of, assumed_after, assumed, comes_kind}
 use Rattle.pvs_parser.proofs.Follows.{Ends}
 use Rattle.pvs_parser.proofs.Heads.{starts_type}
-use Rattle.pvs_parser.proofs.Gets.{Gets, found, then_, there, absent, takes, names, after_is, both, unglue, from}
+use Rattle.pvs_parser.proofs.Gets.{Gets, found, then_, there, absent, takes, names, after_is, both, unglue}
 use Rattle.pvs_parser.proofs.DescentSteps.{Splits}
 use Rattle.pvs_parser.proofs.Wholes.{type_first}
 use Rattle.pvs_parser.proofs.Deeper.{IsExpr, expr_complete, type_complete, bindings_complete}

@@ -1,5 +1,5 @@
 -- Formal parameters: what is read is in the grammar, and what is in the grammar is read.
-use Rattle.std.proofs.Common.{◌≡◌, ◌∙◌, ℕ, zero, suc, ◌≤◌, Bool, true, false, List, [], ◌∷◌, ◌++◌, length, map, Option, Some, None, Ok, refl, sym, ap, subst, append_assoc, append-nil, length-append, arith}
+use Rattle.std.proofs.Common.{◌≡◌, ◌∙◌, ℕ, zero, suc, ◌≤◌, Bool, true, false, List, [], ◌∷◌, ◌++◌, length, map, Option, Some, None, Ok, refl, sym, ap, subst, append_assoc, length-append, arith}
 use Rattle.pvs_parser.specs.declared.nesting.Nesting.{Nesting}
 use Rattle.pvs_parser.specs.declared.terminal.Terminal.{Terminal}
 use Rattle.pvs_parser.specs.declared.terminal.TerminalKind.{TerminalKind}
@@ -7,14 +7,14 @@ use Rattle.pvs_parser.specs.declared.terminal.TerminalKind.TheVariants as kind
 use Rattle.pvs_syntax.specs.declared.word.Word.{Word}
 use Rattle.pvs_syntax.specs.declared.expression.TypeExpr.{TypeExpr}
 use Rattle.pvs_syntax.specs.declared.unit.Formal.{Formal}
-use Rattle.pvs_parser.specs.Terminals.{Is, IsId, is_id}
-use Rattle.pvs_parser.specs.Language.{Limit, IsBelow, HasRoom, Tokens, Derives, Nonterminal, Tree, type_, outermost, inside}
+use Rattle.pvs_parser.specs.Terminals.{Is}
+use Rattle.pvs_parser.specs.Language.{Limit, IsBelow, HasRoom, Tokens, Derives, type_, outermost, inside}
 use Rattle.pvs_parser.specs.Units.{DerivesIds, DerivesTypeWord, DerivesFormal, DerivesFormals, DerivesFormalPart, type_formal, const_formal}
 use Rattle.pvs_parser.specs.Descent.{◌>>=◌, after, either, entries}
 use Rattle.pvs_parser.specs.UnitDescent.{type, plus, formal_of, formal_after, formal, formals_from, formals, formal_part}
 use Rattle.pvs_parser.proofs.Yields.{Yields, here, none, bind, cases, weaken}
-use Rattle.pvs_parser.proofs.Gets.{Gets, found, then_, there, absent, takes, names, after_is, after_other, has_room, both, unglue, from}
-use Rattle.pvs_parser.proofs.DescentSteps.{Comes, after_yields, expect_yields, room, AtMost, below_at_most, fewer, entries_at_most, one_more, enough_entries, Splits, glue, put, alone, nothing, below_zero}
+use Rattle.pvs_parser.proofs.Gets.{Gets, found, then_, there, absent, takes, after_is, has_room, both, unglue, from}
+use Rattle.pvs_parser.proofs.DescentSteps.{Comes, after_yields, expect_yields, room, AtMost, below_at_most, fewer, entries_at_most, one_more, enough_entries, Splits, glue, put, alone, nothing}
 use Rattle.pvs_parser.proofs.DescentSound.{crowded_yields}
 use Rattle.pvs_parser.proofs.Deeper.{Fore, type_sound, type_complete}
 use Rattle.pvs_parser.proofs.Ids.{ids_sound, ids_complete}

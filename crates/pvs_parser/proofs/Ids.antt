@@ -1,5 +1,5 @@
 -- Identifiers with commas between them: what is read is in the grammar, and what is in the grammar is read.
-use Rattle.std.proofs.Common.{◌≡◌, ◌∙◌, ℕ, zero, suc, ◌≤◌, List, [], ◌∷◌, ◌++◌, length, Option, Some, None, Ok, false, refl, sym, ap, subst, append_assoc, append-nil, length-append, arith}
+use Rattle.std.proofs.Common.{◌≡◌, ◌∙◌, ℕ, zero, suc, ◌≤◌, List, [], ◌∷◌, ◌++◌, length, None, false, refl, sym, subst, append_assoc, length-append, arith}
 use Rattle.pvs_parser.specs.declared.nesting.Nesting.{Nesting}
 use Rattle.pvs_parser.specs.declared.terminal.Terminal.{Terminal}
 use Rattle.pvs_parser.specs.declared.terminal.TerminalKind.TheVariants as kind
@@ -11,7 +11,7 @@ use Rattle.pvs_parser.specs.Descent.{after, entries, list_from}
 use Rattle.pvs_parser.specs.UnitDescent.{name, ids}
 use Rattle.pvs_parser.proofs.Yields.{Yields, here, bind, cases, weaken}
 use Rattle.pvs_parser.proofs.Gets.{Gets, found, then_, there, absent, names, after_is, after_other, from}
-use Rattle.pvs_parser.proofs.DescentSteps.{Comes, after_yields, id_bind, AtMost, below_at_most, fewer, entries_at_most, one_more, enough_entries, Splits, glue, put, alone}
+use Rattle.pvs_parser.proofs.DescentSteps.{Comes, after_yields, id_bind, AtMost, below_at_most, fewer, entries_at_most, one_more, enough_entries, Splits, put, alone}
 use Rattle.pvs_parser.proofs.DescentSound.{crowded_yields}
 use Rattle.pvs_parser.proofs.Deeper.{Fore}
 

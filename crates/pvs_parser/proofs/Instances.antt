@@ -1,5 +1,5 @@
 -- Instances of theories behind IMPORTING: what is read is in the grammar, and what is in the grammar is read.
-use Rattle.std.proofs.Common.{◌≡◌, ◌∙◌, ◌⊎◌, inl, inr, ℕ, zero, suc, ◌+◌, ◌≤◌, List, [], ◌∷◌, ◌++◌, length, map, false, None, refl, sym, ap, subst, append_assoc, append-nil, length-append, arith}
+use Rattle.std.proofs.Common.{◌≡◌, ◌∙◌, ◌⊎◌, inl, inr, ℕ, zero, suc, ◌+◌, ◌≤◌, List, [], ◌∷◌, ◌++◌, length, map, false, None, refl, sym, subst, append_assoc, length-append, arith}
 use Rattle.pvs_parser.specs.declared.nesting.Nesting.{Nesting}
 use Rattle.pvs_parser.specs.declared.terminal.Terminal.{Terminal}
 use Rattle.pvs_parser.specs.declared.terminal.TerminalKind.TheVariants as kind
@@ -11,12 +11,12 @@ use Rattle.pvs_parser.specs.Terminals.{Is, IsId, same_kind}
 use Rattle.pvs_parser.specs.Language as l
 use Rattle.pvs_parser.specs.Language.{Limit, Item, Tokens, Derives, instance, outermost}
 use Rattle.pvs_parser.specs.Units.{DerivesInstances, DerivesImporting}
-use Rattle.pvs_parser.specs.Descent.{after, framed_with}
-use Rattle.pvs_parser.specs.UnitDescent.{actuals, inst, instances_from, importing}
+use Rattle.pvs_parser.specs.Descent.{after}
+use Rattle.pvs_parser.specs.UnitDescent.{inst, instances_from, importing}
 use Rattle.pvs_parser.proofs.Yields.{Yields, here, none, bind, cases, weaken}
 use Rattle.pvs_parser.proofs.Gets.{Gets, found, then_, there, absent, names, after_is, after_other, both, unglue, from}
 use Rattle.pvs_parser.proofs.DescentSteps.{Comes, after_yields, id_bind, Splits, glue, put, alone}
-use Rattle.pvs_parser.proofs.Wholes.{PlainInst, InstWith, inst_cases, form_some}
+use Rattle.pvs_parser.proofs.Wholes.{PlainInst, InstWith, inst_cases}
 use Rattle.pvs_parser.proofs.Deeper.{Fore, framed_sound, actuals_complete}
 use Rattle.pvs_parser.proofs.Behind.{DeclEnds, decl_comma, decl_bracket}
 

@@ -4,14 +4,14 @@ use Rattle.pvs_parser.specs.declared.terminal.Terminal.{Terminal}
 use Rattle.pvs_parser.specs.declared.terminal.TerminalKind.{TerminalKind}
 use Rattle.pvs_parser.specs.declared.terminal.TerminalKind.TheVariants as kind
 use Rattle.pvs_syntax.specs.declared.unit.Decl.{Decl}
-use Rattle.pvs_parser.specs.Terminals.{Is, is_id, same_kind}
+use Rattle.pvs_parser.specs.Terminals.{Is, same_kind}
 use Rattle.pvs_parser.specs.Language.{Tokens}
 use Rattle.pvs_parser.specs.Units.{DerivesSemicolon, DerivesMany}
 use Rattle.pvs_parser.specs.Descent.{Answer, ◌>>=◌, after, either}
 use Rattle.pvs_parser.specs.UnitDescent.{comes_kind, comes_decl, past_semicolon, many_from}
 use Rattle.pvs_parser.proofs.Yields.{Yields, here, bind, weaken}
 use Rattle.pvs_parser.proofs.Gets.{Gets, found, after_is, after_other}
-use Rattle.pvs_parser.proofs.DescentSteps.{after_yields, Splits, glue, put, alone, nothing}
+use Rattle.pvs_parser.proofs.DescentSteps.{after_yields, Splits, glue, alone, nothing}
 use Rattle.pvs_parser.proofs.Deeper.{Fore}
 use Rattle.pvs_parser.proofs.Behind.{ends_decl, DeclEnds, decl_at}
 use Rattle.pvs_parser.proofs.DeclsRead.{DeclComes}

@@ -1,5 +1,5 @@
 -- The scripts of a unit lie in its text.
-use Rattle.std.proofs.Common.{◌≡◌, ◌∙◌, ◌≤◌, ◌<◌, ◌+◌, ℕ, false, List, [], ◌∷◌, ◌++◌, length, map, All, refl, sym, ap, subst, arith, rules}
+use Rattle.std.proofs.Common.{◌≤◌, ℕ, false, List, [], ◌∷◌, ◌++◌, length, map, All, subst, arith, rules}
 use Rattle.std.proofs.lemmas.List.Elements.{All-nil, All-cons}
 use Rattle.pvs_lexer.specs.declared.token.Token.{Token}
 use Rattle.pvs_lexer.specs.Spans.{AreSpans}

@@ -1,5 +1,5 @@
 -- Texts and spans of them: what is read is in the grammar, what is in the grammar is read, and there is one answer.
-use Rattle.std.proofs.Common.{◌≡◌, ◌∙◌, ◌≤◌, ◌^◌, ℕ, Bool, true, false, nat_lt, if◌then◌else◌, List, length, Option, Some, None, Result, Ok, Err, refl, sym, ap, subst, arith, rules}
+use Rattle.std.proofs.Common.{◌≡◌, ◌∙◌, ◌≤◌, ◌^◌, ℕ, Bool, true, false, nat_lt, if◌then◌else◌, List, length, Option, Some, None, Result, Ok, Err, refl, sym, ap, arith}
 use Rattle.std.proofs.lemmas.Bool.{ltb-false, le-ltb}
 use Rattle.pvs_base.specs.declared.code.Code.TheVariants as code
 use Rattle.pvs_base.specs.declared.code.Fault.{Fault}
@@ -7,11 +7,10 @@ use Rattle.pvs_base.specs.declared.place.Pos.{Pos}
 use Rattle.pvs_base.specs.Place.{place_after}
 use Rattle.pvs_syntax.specs.declared.expression.Expr.{Expr}
 use Rattle.pvs_syntax.specs.declared.unit.Unit as tree
-use Rattle.pvs_parser.specs.declared.failure.Stop.{Stop}
-use Rattle.pvs_parser.specs.Language.{Tokens, IsBelow, bounded}
+use Rattle.pvs_parser.specs.Language.{IsBelow, bounded}
 use Rattle.pvs_parser.specs.Descent.{Answer, expression}
 use Rattle.pvs_parser.specs.UnitDescent.{unit}
-use Rattle.pvs_parser.specs.Text.{Terminals, fault_of, unless_fault, judged, first_place, terminals_of_text, read_text, Reads, IsAnswer, span_of, terminals_of_span, read_span, ReadsSpan, IsFirstFaultOfSpan}
+use Rattle.pvs_parser.specs.Text.{Terminals, unless_fault, judged, first_place, terminals_of_text, read_text, Reads, IsAnswer, span_of, terminals_of_span, read_span, ReadsSpan, IsFirstFaultOfSpan}
 use Rattle.pvs_parser.proofs.OneExpression.{expression_sound, expression_complete}
 use Rattle.pvs_parser.proofs.WholeUnits.{unit_sound, unit_complete}
 

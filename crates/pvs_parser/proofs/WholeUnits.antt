@@ -1,5 +1,5 @@
 -- Units: what is read is in the grammar, what is in the grammar is read, and a list of tokens is at most one unit.
-use Rattle.std.proofs.Common.{◌≡◌, ◌∙◌, ℕ, zero, suc, ◌≤◌, true, false, List, [], ◌∷◌, ◌++◌, length, None, Ok, refl, sym, ap, subst, append_assoc, append-nil, length-append, arith}
+use Rattle.std.proofs.Common.{◌≡◌, ◌∙◌, ℕ, zero, suc, ◌≤◌, true, false, List, [], ◌∷◌, ◌++◌, length, Ok, refl, sym, ap, subst, append_assoc, append-nil, length-append, arith}
 use Rattle.pvs_parser.specs.declared.terminal.Terminal.{Terminal}
 use Rattle.pvs_parser.specs.declared.terminal.TerminalKind.{TerminalKind}
 use Rattle.pvs_parser.specs.declared.terminal.TerminalKind.TheVariants as kind
@@ -8,14 +8,14 @@ use Rattle.pvs_syntax.specs.declared.unit.Item.TheVariants as item
 use Rattle.pvs_syntax.specs.declared.unit.Proof.{Proof}
 use Rattle.pvs_syntax.specs.declared.unit.Theory.{Theory}
 use Rattle.pvs_syntax.specs.declared.unit.Unit as tree
-use Rattle.pvs_parser.specs.Terminals.{IsId, is_id, same_kind}
+use Rattle.pvs_parser.specs.Terminals.{is_id, same_kind}
 use Rattle.pvs_parser.specs.Language.{Limit, IsBelow, Tokens}
 use Rattle.pvs_parser.specs.Units.{DerivesTheory, DerivesProof, DerivesItems, DerivesUnit}
 use Rattle.pvs_parser.specs.Descent.{Answer, after}
 use Rattle.pvs_parser.specs.UnitDescent.{one_item, items_from, unit}
 use Rattle.pvs_parser.proofs.Yields.{Yields, here, none, bind, cases, weaken}
 use Rattle.pvs_parser.proofs.Gets.{Gets, found, then_, there, absent, after_is, after_other}
-use Rattle.pvs_parser.proofs.DescentSteps.{after_yields, Splits}
+use Rattle.pvs_parser.proofs.DescentSteps.{after_yields}
 use Rattle.pvs_parser.proofs.Deeper.{Fore}
 use Rattle.pvs_parser.proofs.Theories.{theory_sound, theory_complete, theory_begins}
 use Rattle.pvs_parser.proofs.Scripts.{proof_sound, proof_complete}
