@@ -27,7 +27,7 @@ use Rattle.pvs_syntax.specs.declared.expression.NameExpr.{NameExpr}
 use Rattle.pvs_syntax.specs.declared.expression.TypeExpr.{TypeExpr}
 use Rattle.pvs_syntax.specs.declared.expression.TypeExpr.TheVariants as type_expr
 use Rattle.pvs_parser.specs.Terminals.{is_id, same_kind}
-use Rattle.pvs_parser.specs.Language.{Limit, bounded, outermost, level, marked, held, inside, cleared, named, qualified, instance, untyped, typed, equation, empty, grouped, sign, operator, comparison, binder_word, begins_type, Item, Expression, Parameter, Component, Variable, BareVariable, Definition, ItemTree, Tokens}
+use Rattle.pvs_parser.specs.Language.{Limit, outermost, level, marked, held, inside, cleared, named, qualified, instance, untyped, typed, equation, empty, grouped, sign, operator, comparison, binder_word, begins_type, Item, Expression, Parameter, Component, Variable, BareVariable, Definition, ItemTree, Tokens}
 
 -- what is read, or where reading stops
 abbrev pub Answer : Type 0 → Type 0
@@ -252,9 +252,6 @@ instance_name_with go w l ts = framed_with go Parameter kind.CloseBracket l ts >
 abbrev pub name_after : Go → Word → Nesting → Tokens → Answer (NameExpr × Tokens)
 name_after go w l ts = either (after kind.OpenBracket ts) (λ us. instance_name_with go w l us)
     (either (after kind.Dot ts) (λ us. name_of w [] us) (Ok (named w, ts)))
-
-abbrev pub name_with : Go → Nesting → Tokens → Answer (NameExpr × Tokens)
-name_with go l ts = id ts >>= λ p. name_after go p.0 l p.1
 
 -- ---- Terms.
 
