@@ -22,7 +22,7 @@ use Rattle.pvs_syntax.specs.declared.expression.TypeExpr.{TypeExpr}
 use Rattle.pvs_syntax.specs.declared.expression.TypeExpr.TheVariants as type_expr
 use Rattle.pvs_parser.specs.Terminals.{Is, IsId, is_id, same_kind}
 use Rattle.pvs_parser.specs.Language.{Limit, Tokens, IsBelow, HasRoom, level, Derives, Ending, Plain, Bound, Form, Item, Nonterminal, form, item, list, name, inst, type_, Tree, ItemTree, tighter, qualified, sign, comparison, inside, cleared, marked, held, before_call, binder_word, grouped}
-use Rattle.pvs_parser.specs.Descent.{Answer, Read, Go, ◌>>=◌, after, prefix, prefix_of_binder, begins, begins_of, compares, compares_of, labels, labels_of, comes_type, entries, list_from, list_with, framed_with, name_after, name_term_with, name_type_with, first_of, first_with, call_mark, call_with, project, term_from, term_with, prefixed_with, binder_with, compared_from, operand_with, between_with, chain_with, cond_with, otherwise_of, otherwise_with, type_of, type_with, parameter_of, parameter_with, component_with, variable_with, bare_variable, definition_with, item_with, step, reader}
+use Rattle.pvs_parser.specs.Descent.{Answer, Read, Go, ◌>>=◌, after, prefix, prefix_of_binder, begins, begins_of, compares, compares_of, labels, labels_of, comes_type, entries, starts_item, list_from, list_with, framed_with, name_after, name_term_with, name_type_with, first_of, first_with, call_mark, call_with, project, term_from, term_with, prefixed_with, binder_with, compared_from, operand_with, between_with, chain_with, cond_with, otherwise_of, otherwise_with, type_of, type_with, parameter_of, parameter_with, component_with, variable_with, bare_variable, definition_with, item_with, step, reader}
 use Rattle.pvs_parser.proofs.Follows.{pull, pull_of, Ends, FormStops, ItemStops}
 use Rattle.pvs_parser.proofs.Gets.{Gets, found, then_, there, absent, has_room, takes, names, numbers, after_is, after_other, both, unglue, from}
 use Rattle.pvs_parser.proofs.Nonempty.{nonempty}
@@ -79,7 +79,7 @@ InstReads go l ts x m = (t : Terminal) × (vs : Tokens) × (ts ≡ t ∷ vs) × 
 abbrev pub ListReads : Go → (i : Item) → Nesting → Tokens → List (ItemTree i) → Nesting → Type 0
 ListReads go i l ts xs m = (length xs ≤ length ts) × (IsBelow go.limit 0 → AtMost go.limit (length xs))
     × ((all us : Tokens) → Splits all ts us → ItemStops i us → after kind.Comma us ≡ None → (room : ℕ) (before : List (ItemTree i)) → length xs ≤ room
-    → Gets (list_from (item_with go i) room before l all) (before ++ xs, m, us))
+    → Gets (list_from (starts_item i) (item_with go i) room before l all) (before ++ xs, m, us))
 
 -- how each form is read
 abbrev pub Reads : Go → (s : Nonterminal) → Nesting → Tokens → Tree s → Nesting → Type 0
@@ -195,18 +195,18 @@ splits_front {all = all} {ts = ts} {us = us} s = let e : length all ≡ length (
 
 -- ---- lists
 
-list_one_goes : {A : Type 0} (reads : Nesting → Tokens → Read A) (room : ℕ) (before : List A) (x : A) (l m : Nesting) (all us : Tokens) → Gets (reads l all) (x, m, us) → after kind.Comma us ≡ None → 1 ≤ room
-    → Gets (list_from reads room before l all) (before ++ x ∷ [], m, us)
+list_one_goes : {A : Type 0} (starts : TerminalKind → Bool) (reads : Nesting → Tokens → Read A) (room : ℕ) (before : List A) (x : A) (l m : Nesting) (all us : Tokens) → Gets (reads l all) (x, m, us) → after kind.Comma us ≡ None → 1 ≤ room
+    → Gets (list_from starts reads room before l all) (before ++ x ∷ [], m, us)
 unfolding list_from
-list_one_goes reads zero before x l m all us g none le = absurd (omega (arith, le))
-list_one_goes reads (suc room) before x l m all us g none le = then_ _ g (absent _ none found)
+list_one_goes starts reads zero before x l m all us g none le = absurd (omega (arith, le))
+list_one_goes starts reads (suc room) before x l m all us g none le = then_ _ g (absent _ none found)
 
-list_more_goes : {A : Type 0} (reads : Nesting → Tokens → Read A) (room : ℕ) (before : List A) (x : A) (xs : List A) (l k m : Nesting) (all us vs : Tokens) (t : Terminal) → Gets (reads l all) (x, k, t ∷ us) → Is kind.Comma t
-    → suc (length xs) ≤ room → ((r : ℕ) → length xs ≤ r → Gets (list_from reads r (before ++ x ∷ []) (cleared k) us) ((before ++ x ∷ []) ++ xs, m, vs)) → Gets (list_from reads room before l all) (before ++ x ∷ xs, m, vs)
+list_more_goes : {A : Type 0} (starts : TerminalKind → Bool) (reads : Nesting → Tokens → Read A) (room : ℕ) (before : List A) (x : A) (xs : List A) (l k m : Nesting) (all us vs : Tokens) (t : Terminal) → Gets (reads l all) (x, k, t ∷ us) → Is kind.Comma t
+    → suc (length xs) ≤ room → ((r : ℕ) → length xs ≤ r → Gets (list_from starts reads r (before ++ x ∷ []) (cleared k) us) ((before ++ x ∷ []) ++ xs, m, vs)) → Gets (list_from starts reads room before l all) (before ++ x ∷ xs, m, vs)
 unfolding list_from
-list_more_goes reads zero before x xs l k m all us vs t g is le h = absurd (omega (arith, le))
-list_more_goes reads (suc room) before x xs l k m all us vs t g is le h =
-    then_ _ g (there _ _ (after_is kind.Comma t us is) (subst (λ z. Gets (list_from reads room (before ++ x ∷ []) (cleared k) us) (triple z m vs)) (append_assoc before (x ∷ []) xs) (h room (omega (arith, le)))))
+list_more_goes starts reads zero before x xs l k m all us vs t g is le h = absurd (omega (arith, le))
+list_more_goes starts reads (suc room) before x xs l k m all us vs t g is le h =
+    then_ _ g (there _ _ (after_is kind.Comma t us is) (subst (λ z. Gets (list_from starts reads room (before ++ x ∷ []) (cleared k) us) (triple z m vs)) (append_assoc before (x ∷ []) xs) (h room (omega (arith, le)))))
 
 list_goes : (go : Go) (i : Item) (l m : Nesting) (ts : Tokens) (xs : List (ItemTree i)) → ListReads go i l ts xs m → (n : ℕ) → IsBelow go.limit n → (all us : Tokens) → Splits all ts us → ItemStops i us → after kind.Comma us ≡ None
     → Gets (list_with go i l all) (xs, m, us)
@@ -423,14 +423,14 @@ pub complete : (go : Go) (n : ℕ) → GoComplete go n → (s : Nonterminal) (l 
 complete go n g _ _ _ _ _ (Derives.one i l m ts x d) fits = (
   some (item i) l ts x m d,
   λ below. one_more go.limit 0 below,
-  λ all us s stop none room before le. list_one_goes (item_with go i) room before x l m all us (complete go n g (item i) l ts x m d fits all us s stop) none le,
+  λ all us s stop none room before le. list_one_goes (starts_item i) (item_with go i) room before x l m all us (complete go n g (item i) l ts x m d fits all us s stop) none le,
 )
 complete go n g _ _ _ _ _ (Derives.more i l k m ts us x xs t d is e lt) fits =
     let h = complete go n g (list i) (cleared k) us xs m e (omega (arith, fits, length-append ts (t ∷ us))) in
     let f = complete go n g (item i) l ts x k d (omega (arith, fits, length-append ts (t ∷ us))) in (
       omega (arith, h.0, length-append ts (t ∷ us)),
       λ below. one_more go.limit (length xs) lt,
-      λ all vs s stop none room before le. list_more_goes (item_with go i) room before x xs l k m all (us ++ vs) vs t
+      λ all vs s stop none room before le. list_more_goes (starts_item i) (item_with go i) room before x xs l k m all (us ++ vs) vs t
           (f all (t ∷ (us ++ vs)) (unglue ts (t ∷ us) s) (stops_at i kind.Comma (refl, omega arith) t (us ++ vs) is)) is le
           (λ r small. h.2 (us ++ vs) vs both stop none r (before ++ x ∷ []) small),
     )

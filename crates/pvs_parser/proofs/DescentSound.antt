@@ -1,6 +1,5 @@
 -- What is read of expressions and types is in the grammar.
-use Rattle.std.proofs.Common.{◌≡◌, ◌∙◌, ℕ, zero, suc, ◌==◌, ◌<◌, ◌≤◌, Bool, true, false, if◌then◌else◌, List, [], ◌∷◌, ◌++◌, length, Option, Some, None, Ok, Err, refl, sym, ap, subst, append_assoc, length-append, arith}
-use Rattle.pvs_parser.specs.declared.failure.Stop.{Stop}
+use Rattle.std.proofs.Common.{◌≡◌, ◌∙◌, ℕ, zero, suc, ◌<◌, ◌≤◌, Bool, true, false, if◌then◌else◌, List, [], ◌∷◌, ◌++◌, length, Option, Some, None, refl, sym, ap, subst, append_assoc, length-append, arith}
 use Rattle.pvs_parser.specs.declared.nesting.Nesting.{Nesting}
 use Rattle.pvs_parser.specs.declared.start.Start.{Start}
 use Rattle.pvs_parser.specs.declared.start.Start.TheVariants as start
@@ -24,7 +23,7 @@ use Rattle.pvs_syntax.specs.declared.expression.TypeExpr.{TypeExpr}
 use Rattle.pvs_syntax.specs.declared.expression.TypeExpr.TheVariants as type_expr
 use Rattle.pvs_parser.specs.Terminals.{Is, IsId, is_id, same_kind}
 use Rattle.pvs_parser.specs.Language.{Limit, Tokens, HasRoom, Derives, Ending, Plain, Bound, Form, Item, Nonterminal, form, item, list, name, inst, type_, Tree, ItemTree, inside, cleared, marked, held, tighter, sign, operator, instance, before_call, comparison, binder_word, begins_type, typed}
-use Rattle.pvs_parser.specs.Descent.{Answer, Read, Go, ◌>>=◌, too_many, after, crowded, entries, deeper, list_from, list_with, framed_with, name_of, name_after, condition_with, cond_with, first_of, first_with, call_mark, call_with, project, term_from, term_with, body_with, binder_with, let_with, not_with, prefix, prefix_of_binder, prefixed_with, compares, compares_of, compared_from, operand_with, chain_on, between_with, chain_with, otherwise_of, otherwise_with, tuple_type, fun_type_with, base_with, sub_type_with, type_of, type_with, parameter_of, parameter_with, unnamed_with, component_with, variable_with, definition_with, item_with, step, expr_with, reader}
+use Rattle.pvs_parser.specs.Descent.{Answer, Read, Go, ◌>>=◌, stop, too_many, starts_item, after, crowded, entries, deeper, list_from, list_with, framed_with, name_of, name_after, condition_with, cond_with, first_of, first_with, call_mark, call_with, project, term_from, term_with, body_with, binder_with, let_with, not_with, prefix, prefix_of_binder, prefixed_with, compares, compares_of, compared_from, operand_with, chain_on, between_with, chain_with, otherwise_of, otherwise_with, tuple_type, fun_type_with, base_with, sub_type_with, type_of, type_with, parameter_of, parameter_with, unnamed_with, component_with, variable_with, definition_with, item_with, step, expr_with, reader}
 use Rattle.pvs_parser.proofs.Yields.{Yields, here, none, bind, cases, weaken}
 use Rattle.pvs_parser.proofs.Follows.{pull, pull_of, power, reach}
 use Rattle.pvs_parser.proofs.Nonempty.{nonempty}
@@ -145,27 +144,27 @@ list_more {limit = limit} i n most found l ts p f us c q g = (
 )
 
 -- one entry too many is no list
-stopped : {B : Type 0} (ts : Tokens) (e : Stop) (b : Bool) {Q : B → Type 0} → Yields (if b then Err e else too_many ts) Q
-stopped ts e true = none
-stopped ts e false = none
+crowded_of : {B : Type 0} (ts : Tokens) (b : Bool) {Q : B → Type 0} → Yields (if b then too_many ts else stop ts) Q
+crowded_of ts true = none
+crowded_of ts false = none
 
-pub crowded_yields : {A B : Type 0} (ts : Tokens) (o : Answer A) {Q : B → Type 0} → Yields (crowded ts o) Q
-crowded_yields ts (Ok x) = none
-crowded_yields ts (Err e) = stopped ts e (e.left == length ts)
+pub crowded_yields : {B : Type 0} (starts : TerminalKind → Bool) (ts : Tokens) {Q : B → Type 0} → Yields (crowded starts ts) Q
+crowded_yields starts [] = none
+crowded_yields starts (t ∷ ts) = crowded_of (t ∷ ts) (starts t.kind)
 
-list_sound : {limit : Limit} (i : Item) (reads : Nesting → Tokens → Read (ItemTree i)) → ((l : Nesting) (ts : Tokens) → Yields (reads l ts) (Front limit (item i) l ts))
-    → (n : ℕ) → AtMost limit n → (found : List (ItemTree i)) (l : Nesting) (ts : Tokens) → Yields (list_from reads n found l ts) (ListFront limit i n found l ts)
+list_sound : {limit : Limit} (i : Item) (starts : TerminalKind → Bool) (reads : Nesting → Tokens → Read (ItemTree i)) → ((l : Nesting) (ts : Tokens) → Yields (reads l ts) (Front limit (item i) l ts))
+    → (n : ℕ) → AtMost limit n → (found : List (ItemTree i)) (l : Nesting) (ts : Tokens) → Yields (list_from starts reads n found l ts) (ListFront limit i n found l ts)
 unfolding list_from
-list_sound i reads sound zero most found l ts = crowded_yields ts (reads l ts)
-list_sound {limit = limit} i reads sound (suc n) most found l ts =
+list_sound i starts reads sound zero most found l ts = crowded_yields starts ts
+list_sound {limit = limit} i starts reads sound (suc n) most found l ts =
     bind (sound l ts) (λ p f. cases
-    (λ us a. weaken (λ q g. list_more i n most found l ts p f us ((after_yields kind.Comma p.2).holds us a) q g) (list_sound i reads sound n (fewer limit n most) (found ++ p.0 ∷ []) (cleared p.1) us))
+    (λ us a. weaken (λ q g. list_more i n most found l ts p f us ((after_yields kind.Comma p.2).holds us a) q g) (list_sound i starts reads sound n (fewer limit n most) (found ++ p.0 ∷ []) (cleared p.1) us))
     (λ a. here (list_one i n found l ts p f)))
 
 list_with_sound : (go : Go) → Sound go → (i : Item) (l : Nesting) (ts : Tokens) → Yields (list_with go i l ts) (Front go.limit (list i) l ts)
 list_with_sound go sound i l ts =
     weaken (λ p f. (f.1, f.2, subst (λ z. Derives go.limit (list i) l f.1 z p.1) (sym f.3) f.5))
-    (list_sound i (item_with go i) (λ l ts. item_sound go sound i l ts) (entries go.limit ts) (entries_at_most go.limit ts) [] l ts)
+    (list_sound i (starts_item i) (item_with go i) (λ l ts. item_sound go sound i l ts) (entries go.limit ts) (entries_at_most go.limit ts) [] l ts)
 
 -- a list, and the sign that ends its frame
 abbrev pub Framed : Limit → (i : Item) → TerminalKind → Nesting → Tokens → List (ItemTree i) × Tokens → Type 0

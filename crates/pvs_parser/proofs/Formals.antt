@@ -7,10 +7,10 @@ use Rattle.pvs_parser.specs.declared.terminal.TerminalKind.TheVariants as kind
 use Rattle.pvs_syntax.specs.declared.word.Word.{Word}
 use Rattle.pvs_syntax.specs.declared.expression.TypeExpr.{TypeExpr}
 use Rattle.pvs_syntax.specs.declared.unit.Formal.{Formal}
-use Rattle.pvs_parser.specs.Terminals.{Is}
+use Rattle.pvs_parser.specs.Terminals.{Is, is_id}
 use Rattle.pvs_parser.specs.Language.{Limit, IsBelow, HasRoom, Tokens, Derives, type_, outermost, inside}
 use Rattle.pvs_parser.specs.Units.{DerivesIds, DerivesTypeWord, DerivesFormal, DerivesFormals, DerivesFormalPart, type_formal, const_formal}
-use Rattle.pvs_parser.specs.Descent.{◌>>=◌, after, either, entries}
+use Rattle.pvs_parser.specs.Descent.{◌>>=◌, after, either, entries, starts_type}
 use Rattle.pvs_parser.specs.UnitDescent.{type, plus, formal_of, formal_after, formal, formals_from, formals, formal_part}
 use Rattle.pvs_parser.proofs.Yields.{Yields, here, none, bind, cases, weaken}
 use Rattle.pvs_parser.proofs.Gets.{Gets, found, then_, there, absent, takes, after_is, has_room, both, unglue, from}
@@ -19,7 +19,6 @@ use Rattle.pvs_parser.proofs.DescentSound.{crowded_yields}
 use Rattle.pvs_parser.proofs.Deeper.{Fore, type_sound, type_complete}
 use Rattle.pvs_parser.proofs.Ids.{ids_sound, ids_complete}
 use Rattle.pvs_parser.proofs.Behind.{PartEnds, part_whole, part_plus, part_at, colon_comma, bracket_comma}
-use Rattle.pvs_parser.proofs.Heads.{starts_type}
 use Rattle.pvs_parser.proofs.Wholes.{type_first}
 
 -- ---- TYPE, with a plus or without
@@ -74,7 +73,7 @@ more_formals limit n most before ts p f us c q g = (
 
 from_sound : (limit : Limit) (n : ℕ) → AtMost limit n → (before : List Formal) (ts : Tokens) → Yields (formals_from limit n before ts) (FormalsFront limit n before ts)
 unfolding formals_from
-from_sound limit zero most before ts = crowded_yields ts (formal limit ts)
+from_sound limit zero most before ts = crowded_yields is_id ts
 from_sound limit (suc n) most before ts =
     bind (formal_sound limit ts) (λ p f. cases
     (λ us a. weaken (λ q g. more_formals limit n most before ts p f us ((after_yields kind.Comma p.1).holds us a) q g) (from_sound limit n (fewer limit n most) (before ++ p.0) us))

@@ -4,7 +4,7 @@ use Rattle.pvs_parser.specs.declared.nesting.Nesting.{Nesting}
 use Rattle.pvs_parser.specs.declared.terminal.Terminal.{Terminal}
 use Rattle.pvs_parser.specs.declared.terminal.TerminalKind.TheVariants as kind
 use Rattle.pvs_syntax.specs.declared.word.Word.{Word}
-use Rattle.pvs_parser.specs.Terminals.{Is, IsId, same_kind}
+use Rattle.pvs_parser.specs.Terminals.{Is, IsId, is_id, same_kind}
 use Rattle.pvs_parser.specs.Language.{Limit, IsBelow, Tokens, outermost, cleared}
 use Rattle.pvs_parser.specs.Units.{DerivesIds}
 use Rattle.pvs_parser.specs.Descent.{after, entries, list_from}
@@ -41,9 +41,9 @@ more_names limit n most before ts p f us c q g = (
   subst (λ z. DerivesIds limit (f.0 ∷ c.0 ∷ g.1) (z ∷ g.0)) f.3 (DerivesIds.more f.0 c.0 g.1 g.0 f.2 c.2 g.5 (below_at_most limit n (length g.0) most g.4)),
 )
 
-from_sound : (limit : Limit) (n : ℕ) → AtMost limit n → (before : List Word) (l : Nesting) (ts : Tokens) → Yields (list_from name n before l ts) (NamesFront limit n before ts)
+from_sound : (limit : Limit) (n : ℕ) → AtMost limit n → (before : List Word) (l : Nesting) (ts : Tokens) → Yields (list_from is_id name n before l ts) (NamesFront limit n before ts)
 unfolding list_from
-from_sound limit zero most before l ts = crowded_yields ts (name l ts)
+from_sound limit zero most before l ts = crowded_yields is_id ts
 from_sound limit (suc n) most before l ts =
     bind (name_sound l ts) (λ p f. cases
     (λ us a. weaken (λ q g. more_names limit n most before ts p f us ((after_yields kind.Comma p.2).holds us a) q g) (from_sound limit n (fewer limit n most) (before ++ p.0 ∷ []) (cleared p.1) us))
@@ -58,18 +58,18 @@ ids_sound limit ts =
 name_goes : (t : Terminal) (us : Tokens) → IsId t → Gets (name outermost (t ∷ us)) (t.word, outermost, us)
 name_goes t us is = names t us _ is found
 
-last_name : (n : ℕ) (before : List Word) (t : Terminal) (us : Tokens) → IsId t → after kind.Comma us ≡ None → Gets (list_from name (suc n) before outermost (t ∷ us)) (before ++ t.word ∷ [], outermost, us)
+last_name : (n : ℕ) (before : List Word) (t : Terminal) (us : Tokens) → IsId t → after kind.Comma us ≡ None → Gets (list_from is_id name (suc n) before outermost (t ∷ us)) (before ++ t.word ∷ [], outermost, us)
 unfolding list_from
 last_name n before t us is none = then_ _ (name_goes t us is) (absent _ none found)
 
-next_name : (n : ℕ) (before ws : List Word) (t u : Terminal) (all us : Tokens) → IsId t → Is kind.Comma u → Gets (list_from name n (before ++ t.word ∷ []) outermost all) ((before ++ t.word ∷ []) ++ ws, outermost, us)
-    → Gets (list_from name (suc n) before outermost (t ∷ u ∷ all)) (before ++ t.word ∷ ws, outermost, us)
+next_name : (n : ℕ) (before ws : List Word) (t u : Terminal) (all us : Tokens) → IsId t → Is kind.Comma u → Gets (list_from is_id name n (before ++ t.word ∷ []) outermost all) ((before ++ t.word ∷ []) ++ ws, outermost, us)
+    → Gets (list_from is_id name (suc n) before outermost (t ∷ u ∷ all)) (before ++ t.word ∷ ws, outermost, us)
 unfolding list_from
 next_name n before ws t u all us is comma g =
-    then_ _ (name_goes t (u ∷ all) is) (there _ _ (after_is kind.Comma u all comma) (subst (λ z. Gets (list_from name n (before ++ t.word ∷ []) outermost all) (z, outermost, us)) (append_assoc before (t.word ∷ []) ws) g))
+    then_ _ (name_goes t (u ∷ all) is) (there _ _ (after_is kind.Comma u all comma) (subst (λ z. Gets (list_from is_id name n (before ++ t.word ∷ []) outermost all) (z, outermost, us)) (append_assoc before (t.word ∷ []) ws) g))
 
 from_complete : (limit : Limit) (ts : Tokens) (ws : List Word) → DerivesIds limit ts ws → (n : ℕ) → length ws ≤ n → (before : List Word) (us : Tokens) → after kind.Comma us ≡ None
-    → Gets (list_from name n before outermost (ts ++ us)) (before ++ ws, outermost, us)
+    → Gets (list_from is_id name n before outermost (ts ++ us)) (before ++ ws, outermost, us)
 from_complete limit _ _ (DerivesIds.one t is) zero le before us none = absurd (omega (arith, le))
 from_complete limit _ _ (DerivesIds.one t is) (suc n) le before us none = last_name n before t us is none
 from_complete limit _ _ (DerivesIds.more t u ts ws is comma d lt) zero le before us none = absurd (omega (arith, le))
