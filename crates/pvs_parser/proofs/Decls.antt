@@ -20,7 +20,7 @@ use Rattle.pvs_parser.proofs.Yields.{Yields, here, none, bind, cases, weaken}
 use Rattle.pvs_parser.proofs.DescentSteps.{after_yields, expect_yields, id_bind, Splits, glue, put, alone, nothing}
 use Rattle.pvs_parser.proofs.Deeper.{Fore, expr_sound, type_sound, framed_sound}
 use Rattle.pvs_parser.proofs.Ids.{ids_sound, ids_one}
-use Rattle.pvs_parser.proofs.Formals.{plus_sound}
+use Rattle.pvs_parser.proofs.FormalLists.{plus_sound}
 use Rattle.pvs_parser.proofs.Instances.{importing_sound}
 
 -- what stands behind names and a colon

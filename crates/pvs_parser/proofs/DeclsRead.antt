@@ -24,7 +24,7 @@ use Rattle.pvs_parser.proofs.Wholes.{type_first}
 use Rattle.pvs_parser.proofs.Deeper.{IsExpr, expr_complete, type_complete, bindings_complete}
 use Rattle.pvs_parser.proofs.Ids.{ids_complete, ids_front}
 use Rattle.pvs_parser.proofs.Behind.{DeclEnds, decl_part, part_whole, part_plus, part_equal, equal_ends, colon_comma, colon_open, plus_equal, id_importing}
-use Rattle.pvs_parser.proofs.Formals.{plus_goes, plus_stops}
+use Rattle.pvs_parser.proofs.FormalLists.{plus_goes, plus_stops}
 use Rattle.pvs_parser.proofs.Instances.{importing_complete}
 
 same : {A : Type 0} {o p : Answer A} {y : A} → o ≡ p → Gets p y → Gets o y

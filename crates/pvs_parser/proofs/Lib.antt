@@ -13,12 +13,12 @@ pub mod Worked
 pub mod Deeper
 pub mod Ids
 pub mod Behind
-pub mod Formals
+pub mod FormalLists
 pub mod Instances
 pub mod Decls
 pub mod DeclsRead
 pub mod Many
-pub mod Theories
+pub mod WholeTheories
 pub mod Scripts
 pub mod WholeUnits
 pub mod Texts

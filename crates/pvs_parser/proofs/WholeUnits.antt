@@ -17,7 +17,7 @@ use Rattle.pvs_parser.proofs.Yields.{Yields, here, none, bind, cases, weaken}
 use Rattle.pvs_parser.proofs.Gets.{Gets, found, then_, there, absent, after_is, after_other}
 use Rattle.pvs_parser.proofs.DescentSteps.{after_yields}
 use Rattle.pvs_parser.proofs.Deeper.{Fore}
-use Rattle.pvs_parser.proofs.Theories.{theory_sound, theory_complete, theory_begins}
+use Rattle.pvs_parser.proofs.WholeTheories.{theory_sound, theory_complete, theory_begins}
 use Rattle.pvs_parser.proofs.Scripts.{proof_sound, proof_complete}
 
 -- ---- what is read is in the grammar

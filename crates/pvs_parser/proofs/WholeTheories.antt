@@ -18,7 +18,7 @@ use Rattle.pvs_parser.proofs.Gets.{Gets, found, then_, there, absent, takes, nam
 use Rattle.pvs_parser.proofs.DescentSteps.{after_yields, expect_yields, id_bind, Splits, glue, put, alone, nothing}
 use Rattle.pvs_parser.proofs.Deeper.{Fore}
 use Rattle.pvs_parser.proofs.Behind.{colon_bracket}
-use Rattle.pvs_parser.proofs.Formals.{formal_part_sound, formal_part_complete}
+use Rattle.pvs_parser.proofs.FormalLists.{formal_part_sound, formal_part_complete}
 use Rattle.pvs_parser.proofs.Decls.{declaration_sound, assumed_sound}
 use Rattle.pvs_parser.proofs.DeclsRead.{declaration_complete, assumed_complete, decl_comes, assumed_comes}
 use Rattle.pvs_parser.proofs.Many.{many_sound, many_complete, many_no_assuming, at_end, at_end_assuming}
