@@ -371,3 +371,49 @@ after_later cut u mode n k f g d c ts us h taken left =
       → Goes cut u later n (either (if b then Some vs else None) f (d (t ∷ vs))) (either (if b then Some ws else None) g (c (t ∷ ws)))
   one later l t vs ws meets took less true = raise cut u later n _ _ (taken later l less vs ws took)
   one later l t vs ws meets took less false = left later l (t ∷ vs) (t ∷ ws) meets
+
+pub compares_later : {Y : Type 0} (cut : Cut) (u : Shape Y) (mode : Mode) (n : ℕ) (f g : InfixWord × Tokens → Answer Y) (d c : Tokens → Answer Y) (ts us : Tokens) → Meets cut mode n ts us
+    → ((later : Mode) → Later mode later → Low later (n - 1) n → (w : InfixWord) (vs ws : Tokens) → Took cut later (n - 1) vs ws → Goes cut u later (n - 1) (f (w, vs)) (g (w, ws)))
+    → ((later : Mode) → Later mode later → (vs ws : Tokens) → Meets cut later n vs ws → Goes cut u later n (d vs) (c ws))
+    → Goes cut u mode n (either (compares ts) f (d ts)) (either (compares us) g (c us))
+compares_later cut u mode n f g d c ts us h taken left =
+    heads cut u mode n (λ z. either (compares z) f (d z)) (λ z. either (compares z) g (c z)) ts us h (at_end_later cut u mode n d c left) (λ later l t vs ws meets took less. one later l t vs ws meets took less (comparison t.kind))
+    where
+  one : (later : Mode) → Later mode later → (t : Terminal) (vs ws : Tokens) → Meets cut later n (t ∷ vs) (t ∷ ws) → Took cut later (n - 1) vs ws → Low later (n - 1) n → (o : Option InfixWord)
+      → Goes cut u later n (either (compares_of o vs) f (d (t ∷ vs))) (either (compares_of o ws) g (c (t ∷ ws)))
+  one later l t vs ws meets took less (Some w) = raise cut u later n _ _ (taken later l less w vs ws took)
+  one later l t vs ws meets took less None = left later l (t ∷ vs) (t ∷ ws) meets
+
+pub begins_later : {Y : Type 0} (cut : Cut) (u : Shape Y) (mode : Mode) (n : ℕ) (f g : Prefix × Word × Tokens → Answer Y) (d c : Tokens → Answer Y) (ts us : Tokens) → Meets cut mode n ts us
+    → ((later : Mode) → Later mode later → Low later (n - 1) n → (p : Prefix) (w : Word) (vs ws : Tokens) → Took cut later (n - 1) vs ws → Goes cut u later (n - 1) (f (p, w, vs)) (g (p, w, ws)))
+    → ((later : Mode) → Later mode later → (vs ws : Tokens) → Meets cut later n vs ws → Goes cut u later n (d vs) (c ws))
+    → Goes cut u mode n (either (begins ts) f (d ts)) (either (begins us) g (c us))
+begins_later cut u mode n f g d c ts us h taken left =
+    heads cut u mode n (λ z. either (begins z) f (d z)) (λ z. either (begins z) g (c z)) ts us h (at_end_later cut u mode n d c left) (λ later l t vs ws meets took less. one later l t vs ws meets took less (prefix t.kind))
+    where
+  one : (later : Mode) → Later mode later → (t : Terminal) (vs ws : Tokens) → Meets cut later n (t ∷ vs) (t ∷ ws) → Took cut later (n - 1) vs ws → Low later (n - 1) n → (o : Option Prefix)
+      → Goes cut u later n (either (begins_of o t.word vs) f (d (t ∷ vs))) (either (begins_of o t.word ws) g (c (t ∷ ws)))
+  one later l t vs ws meets took less (Some p) = raise cut u later n _ _ (taken later l less p t.word vs ws took)
+  one later l t vs ws meets took less None = left later l (t ∷ vs) (t ∷ ws) meets
+
+pub compares_past : {Y : Type 0} (cut : Cut) (u : Shape Y) (f : InfixWord × Tokens → Answer Y) (d : Tokens → Answer Y) (ts : Tokens) → length ts ≤ length cut.here → ((w : InfixWord) (vs : Tokens) → length vs < length cut.here → Shrinks cut u (f (w, vs)))
+    → ((vs : Tokens) → length vs ≤ length cut.here → Shrinks cut u (d vs)) → Shrinks cut u (either (compares ts) f (d ts))
+compares_past cut u f d [] h taken left = left [] h
+compares_past cut u f d (t ∷ ts) h taken left = one (comparison t.kind) where
+  one : (o : Option InfixWord) → Shrinks cut u (either (compares_of o ts) f (d (t ∷ ts)))
+  one (Some w) = taken w ts (omega (arith, h))
+  one None = left (t ∷ ts) h
+
+pub begins_past : {Y : Type 0} (cut : Cut) (u : Shape Y) (f : Prefix × Word × Tokens → Answer Y) (d : Tokens → Answer Y) (ts : Tokens) → length ts ≤ length cut.here → ((p : Prefix) (w : Word) (vs : Tokens) → length vs < length cut.here → Shrinks cut u (f (p, w, vs)))
+    → ((vs : Tokens) → length vs ≤ length cut.here → Shrinks cut u (d vs)) → Shrinks cut u (either (begins ts) f (d ts))
+begins_past cut u f d [] h taken left = left [] h
+begins_past cut u f d (t ∷ ts) h taken left = one (prefix t.kind) where
+  one : (o : Option Prefix) → Shrinks cut u (either (begins_of o t.word ts) f (d (t ∷ ts)))
+  one (Some p) = taken p t.word ts (omega (arith, h))
+  one None = left (t ∷ ts) h
+
+pub room_past : {Y : Type 0} (cut : Cut) (u : Shape Y) (a : Limit) (l m : Nesting) (f : Nesting → Answer Y) (ts : Tokens) → length ts < length cut.here → Shrinks cut u (f m) → Shrinks cut u (with_room a l m ts >>= f)
+room_past cut u a l m f ts h k = one (is_below a (level l)) where
+  one : (x : Bool) → Shrinks cut u ((if x then Ok m else too_deep ts) >>= f)
+  one true = k
+  one false = omega (arith, h)

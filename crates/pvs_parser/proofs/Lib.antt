@@ -23,3 +23,5 @@ pub mod Scripts
 pub mod WholeUnits
 pub mod Texts
 pub mod ScriptSpans
+pub mod Cuts
+pub mod Locality

@@ -25,8 +25,9 @@ use Rattle.pvs_syntax.specs.declared.expression.TypeExpr.{TypeExpr}
 use Rattle.pvs_syntax.specs.declared.expression.TypeExpr.TheVariants as type_expr
 use Rattle.pvs_parser.specs.Terminals.{IsId, is_id, same_kind}
 use Rattle.pvs_parser.specs.Language.{Tokens, Limit, Item, ItemTree, level, inside, cleared, marked, held, sign, operator, named, qualified, instance, typed, untyped, equation, empty, grouped, begins_type}
-use Rattle.pvs_parser.specs.Descent.{Answer, Read, Go, ◌>>=◌, either, stop, too_many, deeper, after, expect, id, labels, labels_of, is_below, mark, hold, enter, parameter_of, parameter_with, comes_type, unnamed_with, typed_with, component_with, variable_with, bare_variable, value_with, definition_with, item_with, crowded, list_from, starts_expr, starts_type, starts_item, entries, list_with, framed_with, name_of, instance_name_with, name_after, group_with, condition_with, cond_with, if_with, name_term_with, first_of, first_with, call_mark, call_with, project, term_from, term_with, body_with, bindings_with, bare_bindings_with, binder_with, let_with, not_with, prefixed_with, last_with, compared_from, comparison_with, operand_with, chain_after, chain_on, between_with, chain_with, else_with, elsif_with, otherwise_of, otherwise_with, pred_type_with, base_with, sub_type_with, fun_type_with, tuple_type, bracket_type_with, name_type_with, type_of, type_with, expr_with, step, nothing, reader}
-use Rattle.pvs_parser.proofs.Cuts.{Cut, Mode, Meets, Took, Low, Shape, two, three, four, Goes, Shrinks, Agrees, Takes, Enters, Opens, Later, low_later, Rooms, beyond, bind, done_two, done_three, done_four, weaken, low_less, low_more, raise, heads, stops, pick, after_or, after_less, bind_later, after_later, later_trans, bind_past, after_past, too_many_goes, expect_then, id_then, number_then, compares_or, begins_or, room_then, length_cut}
+use Rattle.pvs_parser.specs.Descent.{Answer, Read, Go, ◌>>=◌, either, begins, begins_of, prefix, compares, stop, too_many, deeper, after, expect, id, labels, labels_of, is_below, mark, hold, enter, parameter_of, parameter_with, comes_type, unnamed_with, typed_with, component_with, variable_with, bare_variable, value_with, definition_with, item_with, crowded, list_from, starts_expr, starts_type, starts_item, entries, list_with, framed_with, name_of, instance_name_with, name_after, group_with, condition_with, cond_with, if_with, name_term_with, first_of, first_with, call_mark, call_with, project, term_from, term_with, body_with, bindings_with, bare_bindings_with, binder_with, let_with, not_with, prefixed_with, last_with, compared_from, comparison_with, operand_with, chain_after, chain_on, between_with, chain_with, else_with, elsif_with, otherwise_of, otherwise_with, pred_type_with, base_with, sub_type_with, fun_type_with, tuple_type, bracket_type_with, name_type_with, type_of, type_with, expr_with, step, nothing, reader}
+use Rattle.pvs_parser.proofs.DescentSound.{reader_limit}
+use Rattle.pvs_parser.proofs.Cuts.{Cut, Mode, Meets, Took, Low, Shape, two, three, four, Goes, Shrinks, Agrees, Takes, Enters, Opens, Later, low_later, Rooms, beyond, bind, done_two, done_three, done_four, weaken, low_less, low_more, raise, heads, stops, pick, after_or, after_less, bind_later, after_later, compares_later, begins_later, compares_past, begins_past, room_past, later_trans, bind_past, after_past, too_many_goes, expect_then, id_then, number_then, compares_or, begins_or, room_then, length_cut}
 
 -- the entries of lists are as many in both readings, or any number in the other, where that is excused
 abbrev pub Lists : Cut → Limit → Limit → Type 0
@@ -453,8 +454,315 @@ bare_bindings_goes cut n go other d b w l mode m low ts us h =
 binder_goes : (cut : Cut) (n : ℕ) (go other : Go) → Deep cut n go other → (b : BinderWord) (w : Word) (l : Nesting) → Takes cut three n (binder_with go b w l) (binder_with other b w l)
 binder_goes cut n go other d b w l mode m low ts us h =
     room_then cut three mode m go.limit other.limit d.rooms l (held l) _ _ ts us h
-    (after_or cut three mode m n (low_more mode m n low) kind.Open _ _ (λ z. bare_bindings_with go b w (held l) z) (λ z. bare_bindings_with other b w (held l) z) ts us (weaken cut mode m ts us h)
-    (λ a la vs ws took. bindings_goes cut n go other d b w (held l) a (m - 1) la vs ws took)
-    (λ a la vs ws k. bare_low a la vs ws k)) where
-  bare_low : (a : Mode) → Low a m (n + 1) → (vs ws : Tokens) → Meets cut a m vs ws → Goes cut three a m (bare_bindings_with go b w (held l) vs) (bare_bindings_with other b w (held l) ws)
-  bare_low a la vs ws k = hole
+    (after_later cut three mode m kind.Open _ _ (λ z. bare_bindings_with go b w (held l) z) (λ z. bare_bindings_with other b w (held l) z) ts us (weaken cut mode m ts us h)
+    (λ a la less vs ws took. bindings_goes cut n go other d b w (held l) a (m - 1) (low_less a m n less (low_more a m n (low_later mode a m n la low))) vs ws took)
+    (λ a la vs ws k. bare_bindings_goes cut n go other d b w (held l) a m (low_later mode a m n la low) vs ws k))
+
+let_goes : (cut : Cut) (n : ℕ) (go other : Go) → Deep cut n go other → (w : Word) (l : Nesting) → Takes cut three n (let_with go w l) (let_with other w l)
+let_goes cut n go other d w l mode m low ts us h =
+    room_then cut three mode m go.limit other.limit d.rooms l (held l) _ _ ts us h
+    (bind cut three three mode m n low _ _ _ _ (list_with_goes cut n go other d Item.Definition (held l) mode m low ts us (weaken cut mode m ts us h)) (λ x a la vs k.
+    expect_then cut three a m n (low_more a m n la) kind.In _ _ x.2 vs k (λ b lb xs ys took.
+    bind cut three three b (m - 1) n lb _ _ _ _ (deeper_goes cut n go other d x.1 b (m - 1) lb xs ys (weaken cut b (m - 1) xs ys took)) (λ y c lc zs j. done_three cut c (m - 1) (expr.Let x.0 y.0 w.pos) y.1 y.2 zs j))))
+
+not_goes : (cut : Cut) (n : ℕ) (go other : Go) → Deep cut n go other → (w : Word) (l : Nesting) → Takes cut three n (not_with go w l) (not_with other w l)
+not_goes cut n go other d w l mode m low ts us h =
+    room_then cut three mode m go.limit other.limit d.rooms l (marked l) _ _ ts us h
+    (bind cut three three mode m n low _ _ _ _ (d.expr start.Operand (marked l) mode m low ts us (weaken cut mode m ts us h)) (λ x a la vs k. done_three cut a m (expr.Not x.0 w.pos) x.1 x.2 vs k))
+
+prefixed_goes : (cut : Cut) (n : ℕ) (go other : Go) → Deep cut n go other → (l : Nesting) (p : Prefix) (w : Word) → Takes cut three n (prefixed_with go l p w) (prefixed_with other l p w)
+prefixed_goes cut n go other d l prefixes.Negation w = not_goes cut n go other d w l
+prefixed_goes cut n go other d l (prefixes.Binder b) w = binder_goes cut n go other d b w l
+prefixed_goes cut n go other d l prefixes.Local w = let_goes cut n go other d w l
+
+-- ---- operands and chains
+
+last_goes : (cut : Cut) (n : ℕ) (go other : Go) → Deep cut n go other → (o : InfixWord) (x : Expr) (l : Nesting) (p : Prefix) (w : Word) → Takes cut three n (last_with go o x l p w) (last_with other o x l p w)
+last_goes cut n go other d o x l p w mode m low ts us h =
+    bind cut three three mode m n low _ _ _ _ (prefixed_goes cut n go other d l p w mode m low ts us h) (λ y a la vs k. done_three cut a m (expr.Infix o x y.0) y.1 y.2 vs k)
+
+-- behind an = or /=
+compared_turn : (cut : Cut) (n : ℕ) (go other : Go) → Deep cut n go other → (k j : ℕ) (o : InfixWord) (x : Expr) (l : Nesting)
+    → ((mode : Mode) (m : ℕ) → Low mode m (n + 1) → Turns cut mode k j m → (y : Expr) (i : Nesting) (ts us : Tokens) → Meets cut mode m ts us → Goes cut three mode m (compared_from go k y i ts) (compared_from other j y i us))
+    → (mode : Mode) (m : ℕ) → Low mode m n → Turns cut mode k j m → (ts us : Tokens) → Took cut mode m ts us
+    → Goes cut three mode m (mark go.limit l ts >>= λ i. either (begins ts) (λ q. last_with go o x i q.0 q.1 q.2) (term_with go i ts >>= λ r. compared_from go k (expr.Infix o x r.0) r.1 r.2))
+      (mark other.limit l us >>= λ i. either (begins us) (λ q. last_with other o x i q.0 q.1 q.2) (term_with other i us >>= λ r. compared_from other j (expr.Infix o x r.0) r.1 r.2))
+compared_turn cut n go other d k j o x l next mode m low t ts us h =
+    room_then cut three mode m go.limit other.limit d.rooms l (marked l) _ _ ts us h
+    (begins_later cut three mode m _ _ (λ z. term_with go (marked l) z >>= λ r. compared_from go k (expr.Infix o x r.0) r.1 r.2) (λ z. term_with other (marked l) z >>= λ r. compared_from other j (expr.Infix o x r.0) r.1 r.2) ts us (weaken cut mode m ts us h)
+    (λ a la less p w vs ws took. last_goes cut n go other d o x (marked l) p w a (m - 1) (low_less a m n less (low_more a m n (low_later mode a m n la low))) vs ws took)
+    (λ a la vs ws meets. bind_later cut three three a m _ _ _ _ (term_with_goes cut n go other d (marked l) a m (low_more a m n (low_later mode a m n la low)) vs ws meets)
+    (λ y c lc xs i. next c m (low_more c m n (low_later a c m n lc (low_later mode a m n la low))) (turns_later cut mode c k j m (later_trans mode a c la lc) t) (expr.Infix o x y.0) y.1 y.2 xs i)))
+
+compared_past : (cut : Cut) (n : ℕ) (go other : Go) → Deep cut n go other → (k : ℕ) (x : Expr) (l : Nesting) (ts : Tokens) → length ts ≤ length cut.here → Shrinks cut three (compared_from go k x l ts)
+unfolding compared_from
+compared_past cut n go other d zero x l ts h = h
+compared_past cut n go other d (suc k) x l ts h =
+    compares_past cut three _ (λ z. Ok (x, l, z)) ts h (λ o vs lt. room_past cut three go.limit l (marked l) _ vs lt
+    (begins_past cut three _ (λ z. term_with go (marked l) z >>= λ r. compared_from go k (expr.Infix o x r.0) r.1 r.2) vs (omega (arith, lt))
+    (λ p w ws lt2. last_goes cut n go other d o x (marked l) p w Mode.Past 0 tt ws ws lt2)
+    (λ ws le. bind_past cut three three (term_with go (marked l) ws) _ (term_with_goes cut n go other d (marked l) Mode.Past 0 tt ws ws le) (λ y hy. compared_past cut n go other d k (expr.Infix o x y.0) y.1 y.2 hy)))) (λ vs le. le)
+
+compared_goes : (cut : Cut) (n : ℕ) (go other : Go) → Deep cut n go other → (k j : ℕ) (mode : Mode) (m : ℕ) → Low mode m (n + 1) → Turns cut mode k j m → (x : Expr) (l : Nesting) (ts us : Tokens) → Meets cut mode m ts us
+    → Goes cut three mode m (compared_from go k x l ts) (compared_from other j x l us)
+unfolding compared_from
+compared_goes cut n go other d k j Mode.Past m low t x l ts us h = compared_past cut n go other d k x l ts h
+compared_goes cut n go other d zero j Mode.Before m low t x l ts us (q, e, e2, le) = inl (no_turn cut m cut.here ts q e le t.0)
+compared_goes cut n go other d (suc k) zero Mode.Before m low t x l ts us (q, e, e2, le) = beyond cut three m _ _ (compared_past cut n go other d (suc k) x l ts (no_turn cut m cut.there ts q e le t.1))
+compared_goes cut n go other d (suc k) (suc j) Mode.Before m low t x l ts us h =
+    compares_later cut three Mode.Before m _ _ (λ z. Ok (x, l, z)) (λ z. Ok (x, l, z)) ts us h
+    (λ a la less o vs ws took. compared_turn cut n go other d k j o x l (λ c i lc tc y z xs ys meets. compared_goes cut n go other d k j c i lc tc y z xs ys meets) a (m - 1) (low_less a m n less (low_later Mode.Before a m (n + 1) la low))
+    (turns_less cut Mode.Before a k j m la less t) vs ws took)
+    (λ a la vs ws meets. done_three cut a m x l vs ws meets)
+
+comparison_goes : (cut : Cut) (n : ℕ) (go other : Go) → Deep cut n go other → (l : Nesting) → Opens cut three n (comparison_with go l) (comparison_with other l)
+comparison_goes cut n go other d l =
+    exact cut three n (λ k ts. term_with go l ts >>= λ p. compared_from go k p.0 p.1 p.2) (λ k ts. term_with other l ts >>= λ p. compared_from other k p.0 p.1 p.2) (λ mode m low k j t ts us h.
+    bind_later cut three three mode m _ _ _ _ (term_with_goes cut n go other d l mode m low ts us h) (λ x a la vs meets.
+    compared_goes cut n go other d k j a m (low_later mode a m (n + 1) la low) (turns_later cut mode a k j m la t) x.0 x.1 x.2 vs meets))
+
+operand_goes : (cut : Cut) (n : ℕ) (go other : Go) → Deep cut n go other → (l : Nesting) → Opens cut three n (operand_with go l) (operand_with other l)
+operand_goes cut n go other d l mode m low ts us h =
+    begins_or cut three mode m n low _ _ (λ z. comparison_with go l z) (λ z. comparison_with other l z) ts us h
+    (λ a la p w vs ws took. prefixed_goes cut n go other d l p w a (m - 1) la vs ws took)
+    (λ a la vs ws meets. comparison_goes cut n go other d l a m la vs ws meets)
+
+chain_after_goes : (cut : Cut) (n : ℕ) (go other : Go) → Deep cut n go other → (c : Connective) (x : Expr) (l : Nesting) → Opens cut three n (chain_after go c x l) (chain_after other c x l)
+chain_after_goes cut n go other d c x l mode m low ts us h =
+    after_or cut three mode m n low (sign c) _ _ (λ z. Ok (x, l, z)) (λ z. Ok (x, l, z)) ts us h
+    (λ a la vs ws took. room_then cut three a (m - 1) go.limit other.limit d.rooms l (marked l) _ _ vs ws took
+    (bind cut three three a (m - 1) n la _ _ _ _ (d.expr (start.Chain c) (marked l) a (m - 1) la vs ws (weaken cut a (m - 1) vs ws took)) (λ y b lb xs k. done_three cut b (m - 1) (expr.Infix (operator c) x y.0) y.1 y.2 xs k)))
+    (λ a la vs ws k. done_three cut a m x l vs ws k)
+
+chain_on_goes : (cut : Cut) (n : ℕ) (go other : Go) → Deep cut n go other → (c : Connective) (f g : Tokens → Read Expr) → Opens cut three n f g → Opens cut three n (λ ts. chain_on go c (f ts)) (λ us. chain_on other c (g us))
+chain_on_goes cut n go other d c f g o mode m low ts us h =
+    bind cut three three mode m (n + 1) low _ _ _ _ (o mode m low ts us h) (λ x a la vs k. chain_after_goes cut n go other d c x.0 x.1 a m la x.2 vs k)
+
+between_goes : (cut : Cut) (n : ℕ) (go other : Go) → Deep cut n go other → (c : Connective) (l : Nesting) → Opens cut three n (between_with go c l) (between_with other c l)
+between_goes cut n go other d connective.And l = operand_goes cut n go other d l
+between_goes cut n go other d connective.Or l = chain_on_goes cut n go other d connective.And _ _ (operand_goes cut n go other d l)
+between_goes cut n go other d connective.Implies l = chain_on_goes cut n go other d connective.Or _ _ (chain_on_goes cut n go other d connective.And _ _ (operand_goes cut n go other d l))
+between_goes cut n go other d connective.Iff l = chain_on_goes cut n go other d connective.Implies _ _ (chain_on_goes cut n go other d connective.Or _ _ (chain_on_goes cut n go other d connective.And _ _ (operand_goes cut n go other d l)))
+
+chain_goes : (cut : Cut) (n : ℕ) (go other : Go) → Deep cut n go other → (c : Connective) (l : Nesting) → Opens cut three n (chain_with go c l) (chain_with other c l)
+chain_goes cut n go other d c l = chain_on_goes cut n go other d c _ _ (between_goes cut n go other d c l)
+
+-- ---- behind THEN and an expression
+
+else_goes : (cut : Cut) (n : ℕ) (go other : Go) → Deep cut n go other → (l : Nesting) → Enters cut three n (else_with go l) (else_with other l)
+else_goes cut n go other d l mode m low ts us h =
+    bind cut three three mode m n low _ _ _ _ (deeper_goes cut n go other d (cleared l) mode m low ts us h) (λ x a la vs k.
+    expect_then cut three a m n (low_more a m n la) kind.EndIf _ _ x.2 vs k (λ b lb xs ys took. done_three cut b (m - 1) x.0 x.1 xs ys (weaken cut b (m - 1) xs ys took)))
+
+elsif_goes : (cut : Cut) (n : ℕ) (go other : Go) → Deep cut n go other → (w : Word) (l : Nesting) → Takes cut three n (elsif_with go w l) (elsif_with other w l)
+elsif_goes cut n go other d w l mode m low ts us h =
+    room_then cut three mode m go.limit other.limit d.rooms (cleared l) (held (cleared l)) _ _ ts us h (cond_goes cut n go other d w (held (cleared l)) mode m low ts us (weaken cut mode m ts us h))
+
+otherwise_of_goes : (cut : Cut) (n : ℕ) (go other : Go) → Deep cut n go other → (l : Nesting) (t : Terminal) (k : TerminalKind) (mode : Mode) (m : ℕ) → Low mode (m - 1) n → (vs ws : Tokens) → Meets cut mode m (t ∷ vs) (t ∷ ws) → Took cut mode (m - 1) vs ws
+    → Goes cut three mode m (otherwise_of go l t vs k) (otherwise_of other l t ws k)
+otherwise_of_goes cut n go other d l t kind.Else mode m low vs ws meets took = raise cut three mode m _ _ (else_goes cut n go other d l mode (m - 1) low vs ws (weaken cut mode (m - 1) vs ws took))
+otherwise_of_goes cut n go other d l t kind.Elsif mode m low vs ws meets took = raise cut three mode m _ _ (elsif_goes cut n go other d t.word l mode (m - 1) low vs ws took)
+otherwise_of_goes cut n go other d l t _ mode m low vs ws meets took = stops cut three mode m (t ∷ vs) (t ∷ ws) meets
+
+otherwise_goes : (cut : Cut) (n : ℕ) (go other : Go) → Deep cut n go other → (l : Nesting) → Opens cut three n (otherwise_with go l) (otherwise_with other l)
+otherwise_goes cut n go other d l mode m low ts us h =
+    heads cut three mode m (λ z. otherwise_with go l z) (λ z. otherwise_with other l z) ts us h (omega arith)
+    (λ a la t vs ws meets took less. otherwise_of_goes cut n go other d l t t.kind a m (low_less a m n less (low_later mode a m (n + 1) la low)) vs ws meets took)
+
+-- ---- types
+
+pred_type_goes : (cut : Cut) (n : ℕ) (go other : Go) → Deep cut n go other → (l : Nesting) (w : Word) → Takes cut three n (pred_type_with go l w) (pred_type_with other l w)
+pred_type_goes cut n go other d l w mode m low ts us h =
+    room_then cut three mode m go.limit other.limit d.rooms l (inside l) _ _ ts us h
+    (bind cut three three mode m n low _ _ _ _ (deeper_goes cut n go other d (inside l) mode m low ts us (weaken cut mode m ts us h)) (λ x a la vs k.
+    expect_then cut three a m n (low_more a m n la) kind.Close _ _ x.2 vs k (λ b lb xs ys took. done_three cut b (m - 1) (type_expr.PredType x.0 w.pos) l xs ys (weaken cut b (m - 1) xs ys took))))
+
+base_goes : (cut : Cut) (n : ℕ) (go other : Go) → Deep cut n go other → (l : Nesting) → Opens cut four n (base_with go l) (base_with other l)
+base_goes cut n go other d l mode m low ts us h =
+    id_then cut four mode m n low _ _ ts us h (λ a la w vs ws took.
+    expect_then cut four a (m - 1) n (low_more a (m - 1) n la) kind.Colon _ _ vs ws (weaken cut a (m - 1) vs ws took) (λ b lb xs ys took2.
+    bind cut three four b (m - 1 - 1) n lb _ _ _ _ (d.type l b (m - 1 - 1) lb xs ys (weaken cut b (m - 1 - 1) xs ys took2)) (λ y c lc zs k.
+    expect_then cut four c (m - 1 - 1) n (low_more c (m - 1 - 1) n lc) kind.Bar _ _ y.2 zs k (λ e le rs ss took3. done_four cut e (m - 1 - 1 - 1) w y.0 y.1 rs ss (weaken cut e (m - 1 - 1 - 1) rs ss took3)))))
+
+sub_type_goes : (cut : Cut) (n : ℕ) (go other : Go) → Deep cut n go other → (l : Nesting) (w : Word) → Takes cut three n (sub_type_with go l w) (sub_type_with other l w)
+sub_type_goes cut n go other d l w mode m low ts us h =
+    room_then cut three mode m go.limit other.limit d.rooms l (inside l) _ _ ts us h
+    (bind cut four three mode m n low _ _ _ _ (base_goes cut n go other d (inside l) mode m (low_more mode m n low) ts us (weaken cut mode m ts us h)) (λ x a la vs k.
+    bind cut three three a m n la _ _ _ _ (deeper_goes cut n go other d x.2 a m la x.3 vs k) (λ y b lb ws j.
+    expect_then cut three b m n (low_more b m n lb) kind.CloseBrace _ _ y.2 ws j (λ c lc xs ys took. done_three cut c (m - 1) (type_expr.SubType x.0 x.1 y.0 w.pos) l xs ys (weaken cut c (m - 1) xs ys took)))))
+
+fun_type_goes : (cut : Cut) (n : ℕ) (go other : Go) → Deep cut n go other → (l : Nesting) (w : Word) (bs : List Binding) (i : Nesting) → Enters cut three n (fun_type_with go l w bs i) (fun_type_with other l w bs i)
+fun_type_goes cut n go other d l w bs i mode m low ts us h =
+    bind cut three three mode m n low _ _ _ _ (d.type i mode m low ts us h) (λ x a la vs k.
+    expect_then cut three a m n (low_more a m n la) kind.CloseBracket _ _ x.2 vs k (λ b lb xs ys took. done_three cut b (m - 1) (type_expr.FunType bs x.0 w.pos) l xs ys (weaken cut b (m - 1) xs ys took)))
+
+tuple_type_goes : (cut : Cut) (n : ℕ) (l : Nesting) (w : Word) (bs : List Binding) → Opens cut three n (tuple_type l w bs) (tuple_type l w bs)
+tuple_type_goes cut n l w [] mode m low ts us h = stops cut three mode m ts us h
+tuple_type_goes cut n l w (b ∷ []) mode m low ts us h = stops cut three mode m ts us h
+tuple_type_goes cut n l w (b ∷ c ∷ bs) mode m low ts us h =
+    expect_then cut three mode m n low kind.CloseBracket _ _ ts us h (λ a la vs ws took. done_three cut a (m - 1) (type_expr.TupleType (b ∷ c ∷ bs) w.pos) l vs ws (weaken cut a (m - 1) vs ws took))
+
+bracket_type_goes : (cut : Cut) (n : ℕ) (go other : Go) → Deep cut n go other → (l : Nesting) (w : Word) → Takes cut three n (bracket_type_with go l w) (bracket_type_with other l w)
+bracket_type_goes cut n go other d l w mode m low ts us h =
+    room_then cut three mode m go.limit other.limit d.rooms l (inside l) _ _ ts us h
+    (bind cut three three mode m n low _ _ _ _ (list_with_goes cut n go other d Item.Component (inside l) mode m low ts us (weaken cut mode m ts us h)) (λ x a la vs k.
+    after_or cut three a m n (low_more a m n la) kind.Arrow _ _ (λ z. tuple_type l w x.0 z) (λ z. tuple_type l w x.0 z) x.2 vs k
+    (λ b lb xs ys took. fun_type_goes cut n go other d l w x.0 x.1 b (m - 1) lb xs ys (weaken cut b (m - 1) xs ys took))
+    (λ b lb xs ys j. tuple_type_goes cut n l w x.0 b m lb xs ys j)))
+
+name_type_goes : (cut : Cut) (n : ℕ) (go other : Go) → Deep cut n go other → (l : Nesting) (w : Word) → Opens cut three n (name_type_with go l w) (name_type_with other l w)
+name_type_goes cut n go other d l w mode m low ts us h =
+    bind cut two three mode m (n + 1) low _ _ _ _ (name_after_goes cut n go other d w l mode m low ts us h) (λ x a la vs k. done_three cut a m (type_expr.NameType x.0) l x.1 vs k)
+
+type_of_goes : (cut : Cut) (n : ℕ) (go other : Go) → Deep cut n go other → (l : Nesting) (t : Terminal) (k : TerminalKind) (mode : Mode) (m : ℕ) → Low mode (m - 1) n → (vs ws : Tokens) → Meets cut mode m (t ∷ vs) (t ∷ ws) → Took cut mode (m - 1) vs ws
+    → Goes cut three mode m (type_of go l t vs k) (type_of other l t ws k)
+type_of_goes cut n go other d l t kind.Id mode m low vs ws meets took = raise cut three mode m _ _ (name_type_goes cut n go other d l t.word mode (m - 1) (low_more mode (m - 1) n low) vs ws (weaken cut mode (m - 1) vs ws took))
+type_of_goes cut n go other d l t kind.Proof mode m low vs ws meets took = raise cut three mode m _ _ (name_type_goes cut n go other d l t.word mode (m - 1) (low_more mode (m - 1) n low) vs ws (weaken cut mode (m - 1) vs ws took))
+type_of_goes cut n go other d l t kind.Open mode m low vs ws meets took = raise cut three mode m _ _ (pred_type_goes cut n go other d l t.word mode (m - 1) low vs ws took)
+type_of_goes cut n go other d l t kind.OpenBrace mode m low vs ws meets took = raise cut three mode m _ _ (sub_type_goes cut n go other d l t.word mode (m - 1) low vs ws took)
+type_of_goes cut n go other d l t kind.OpenBracket mode m low vs ws meets took = raise cut three mode m _ _ (bracket_type_goes cut n go other d l t.word mode (m - 1) low vs ws took)
+type_of_goes cut n go other d l t _ mode m low vs ws meets took = stops cut three mode m (t ∷ vs) (t ∷ ws) meets
+
+type_goes : (cut : Cut) (n : ℕ) (go other : Go) → Deep cut n go other → (l : Nesting) → Opens cut three n (type_with go l) (type_with other l)
+type_goes cut n go other d l mode m low ts us h =
+    heads cut three mode m (λ z. type_with go l z) (λ z. type_with other l z) ts us h (omega arith)
+    (λ a la t vs ws meets took less. type_of_goes cut n go other d l t t.kind a m (low_less a m n less (low_later mode a m (n + 1) la low)) vs ws meets took)
+
+-- ---- the whole
+
+expr_goes : (cut : Cut) (n : ℕ) (go other : Go) → Deep cut n go other → (s : Start) (l : Nesting) → Opens cut three n (expr_with go s l) (expr_with other s l)
+expr_goes cut n go other d (start.Chain c) l = chain_goes cut n go other d c l
+expr_goes cut n go other d start.Operand l = operand_goes cut n go other d l
+expr_goes cut n go other d start.Otherwise l = otherwise_goes cut n go other d l
+
+type_takes_id : (cut : Cut) (n : ℕ) (go other : Go) → Deep cut n go other → (l : Nesting) (t : Terminal) (ts : Tokens) (k : TerminalKind) → is_id k ≡ true → length ts ≤ length cut.here → Shrinks cut three (type_of go l t ts k)
+type_takes_id cut n go other d l t ts kind.Id is h = name_type_goes cut n go other d l t.word Mode.Past 0 tt ts ts h
+type_takes_id cut n go other d l t ts kind.Proof is h = name_type_goes cut n go other d l t.word Mode.Past 0 tt ts ts h
+type_takes_id cut n go other d l t ts _ is h = cc
+
+no_prefix : (k : TerminalKind) → starts_expr k ≡ false → prefix k ≡ None
+no_prefix kind.Not e = cc
+no_prefix kind.Forall e = cc
+no_prefix kind.Exists e = cc
+no_prefix kind.Lambda e = cc
+no_prefix kind.Let e = cc
+no_prefix _ e = refl
+
+no_first : (go : Go) (l : Nesting) (t : Terminal) (ts : Tokens) (k : TerminalKind) → starts_expr k ≡ false → first_of go l t ts k ≡ stop (t ∷ ts)
+no_first go l t ts kind.True e = cc
+no_first go l t ts kind.False e = cc
+no_first go l t ts kind.Id e = cc
+no_first go l t ts kind.Proof e = cc
+no_first go l t ts kind.Open e = cc
+no_first go l t ts kind.If e = cc
+no_first go l t ts _ e = refl
+
+no_operand : (go : Go) (l : Nesting) (t : Terminal) (ts : Tokens) → starts_expr t.kind ≡ false → operand_with go l (t ∷ ts) ≡ stop (t ∷ ts)
+no_operand go l t ts is =
+    ap (λ o. either (begins_of o t.word ts) (λ p. prefixed_with go l p.0 p.1 p.2) (comparison_with go l (t ∷ ts))) (no_prefix t.kind is)
+    ∙ ap (λ o. (o >>= λ p. term_from go (length (t ∷ ts)) p.1 p.0 l p.2) >>= λ p. compared_from go (length (t ∷ ts)) p.0 p.1 p.2) (no_first go l t ts t.kind is)
+
+no_chain : (go : Go) (l : Nesting) (t : Terminal) (ts : Tokens) → starts_expr t.kind ≡ false → chain_with go connective.Iff l (t ∷ ts) ≡ stop (t ∷ ts)
+no_chain go l t ts is = ap (λ o. chain_on go connective.Iff (chain_on go connective.Implies (chain_on go connective.Or (chain_on go connective.And o)))) (no_operand go l t ts is)
+
+no_type_of : (go : Go) (l : Nesting) (t : Terminal) (ts : Tokens) (k : TerminalKind) → starts_type k ≡ false → type_of go l t ts k ≡ stop (t ∷ ts)
+no_type_of go l t ts kind.Id e = cc
+no_type_of go l t ts kind.Proof e = cc
+no_type_of go l t ts kind.Open e = cc
+no_type_of go l t ts kind.OpenBracket e = cc
+no_type_of go l t ts kind.OpenBrace e = cc
+no_type_of go l t ts _ e = refl
+
+step_deep : (cut : Cut) (n : ℕ) (go other : Go) → Deep cut n go other → Deep cut (n + 1) (step go) (step other)
+step_deep cut n go other d = record {
+  rooms = d.rooms;
+  lists = d.lists;
+  expr = λ s l. expr_goes cut n go other d s l;
+  type = λ l. type_goes cut n go other d l;
+  names = λ l t ts le is h. type_takes_id cut n go other d l t ts t.kind is h;
+  no_expr = λ l t ts is. no_chain other l t ts is;
+  no_type = λ l t ts is. no_type_of other l t ts t.kind is;
+}
+
+no_expr_read : (b : Limit) (j : ℕ) (l : Nesting) (t : Terminal) (ts : Tokens) → starts_expr t.kind ≡ false → (reader b j).expr (start.Chain connective.Iff) l (t ∷ ts) ≡ stop (t ∷ ts)
+unfolding reader
+no_expr_read b zero l t ts is = refl
+no_expr_read b (suc j) l t ts is = no_chain (reader b j) l t ts is
+
+no_type_read : (b : Limit) (j : ℕ) (l : Nesting) (t : Terminal) (ts : Tokens) → starts_type t.kind ≡ false → (reader b j).type l (t ∷ ts) ≡ stop (t ∷ ts)
+unfolding reader
+no_type_read b zero l t ts is = refl
+no_type_read b (suc j) l t ts is = no_type_of (reader b j) l t ts t.kind is
+
+-- readings that agree on the limits
+pub record Paired (cut : Cut) (a b : Limit) : Type 0 where
+  pub rooms : Rooms cut a b
+  pub lists : Lists cut a b
+
+rooms_read : (cut : Cut) (a b : Limit) (k j : ℕ) → Paired cut a b → Rooms cut (reader a k).limit (reader b j).limit
+rooms_read cut a b k j p = subst (λ z. Rooms cut z (reader b j).limit) (sym (reader_limit a k)) (subst (λ z. Rooms cut a z) (sym (reader_limit b j)) p.rooms)
+
+lists_read : (cut : Cut) (a b : Limit) (k j : ℕ) → Paired cut a b → Lists cut (reader a k).limit (reader b j).limit
+lists_read cut a b k j p = subst (λ z. Lists cut z (reader b j).limit) (sym (reader_limit a k)) (subst (λ z. Lists cut a z) (sym (reader_limit b j)) p.lists)
+
+past_only : {X : Type 0} (cut : Cut) (s : Shape X) (f g : Tokens → Answer X) → ((m : ℕ) (ts us : Tokens) → length ts ≤ length cut.here → Shrinks cut s (f ts)) → Enters cut s 0 f g
+past_only cut s f g h Mode.Past m low ts us meets = h m ts us meets
+past_only cut s f g h Mode.Before m low ts us meets = absurd (omega (arith, low))
+
+deep_past : (cut : Cut) (a b : Limit) → Paired cut a b → (k j : ℕ) → Deep cut 0 (reader a k) (reader b j)
+unfolding reader
+deep_past cut a b p zero j = record {
+  rooms = rooms_read cut a b zero j p;
+  lists = lists_read cut a b zero j p;
+  expr = λ s l. past_only cut three _ _ (λ m ts us h. h);
+  type = λ l. past_only cut three _ _ (λ m ts us h. h);
+  names = λ l t ts le is h. absurd (omega (arith, le));
+  no_expr = λ l t ts is. no_expr_read b j l t ts is;
+  no_type = λ l t ts is. no_type_read b j l t ts is;
+}
+deep_past cut a b p (suc k) j = record {
+  rooms = rooms_read cut a b (suc k) j p;
+  lists = lists_read cut a b (suc k) j p;
+  expr = λ s l. past_only cut three _ _ (λ m ts us h. expr_goes cut 0 (reader a k) (reader b j) (deep_past cut a b p k j) s l Mode.Past m tt ts ts h);
+  type = λ l. past_only cut three _ _ (λ m ts us h. type_goes cut 0 (reader a k) (reader b j) (deep_past cut a b p k j) l Mode.Past m tt ts ts h);
+  names = λ l t ts le is h. absurd (omega (arith, le));
+  no_expr = λ l t ts is. no_expr_read b j l t ts is;
+  no_type = λ l t ts is. no_type_read b j l t ts is;
+}
+
+pub deep_read : (cut : Cut) (a b : Limit) → Paired cut a b → (n k j : ℕ) → n ≤ k → n ≤ j → Deep cut n (reader a k) (reader b j)
+unfolding reader
+deep_read cut a b p zero k j le le2 = deep_past cut a b p k j
+deep_read cut a b p (suc n) zero j le le2 = absurd (omega (arith, le))
+deep_read cut a b p (suc n) (suc k) zero le le2 = absurd (omega (arith, le2))
+deep_read cut a b p (suc n) (suc k) (suc j) le le2 = let more : n + 1 ≡ suc n = omega arith in subst (λ z. Deep cut z (step (reader a k)) (step (reader b j))) more (step_deep cut n (reader a k) (reader b j) (deep_read cut a b p n k j (omega (arith, le)) (omega (arith, le2))))
+
+-- ---- forms of whole declarations
+
+-- how a function whose fuel is more than the number of tokens follows another one
+whole_goes : {X : Type 0} (cut : Cut) (s : Shape X) (a b : Limit) → Paired cut a b → (f g : Go → Tokens → Answer X) → ((n : ℕ) (go other : Go) → Deep cut n go other → Enters cut s n (f go) (g other))
+    → (mode : Mode) (m : ℕ) (ts us : Tokens) → Meets cut mode m ts us → Goes cut s mode m (f (reader a (length ts + 1)) ts) (g (reader b (length us + 1)) us)
+whole_goes cut s a b p f g h Mode.Past m ts us meets = h 0 (reader a (length ts + 1)) (reader b (length us + 1)) (deep_read cut a b p 0 (length ts + 1) (length us + 1) (omega arith) (omega arith)) Mode.Past m tt ts us meets
+whole_goes cut s a b p f g h Mode.Before m ts us (q, e, e2, le) =
+    raise_to cut s (length q) m le _ _ (h (length q + 1) (reader a (length ts + 1)) (reader b (length us + 1))
+    (deep_read cut a b p (length q + 1) (length ts + 1) (length us + 1) (omega (arith, ap length e, length_cut q cut.here)) (omega (arith, ap length e2, length_cut q cut.there)))
+    Mode.Before (length q) (omega arith) ts us (q, e, e2, omega arith))
+
+whole_takes : {X : Type 0} (cut : Cut) (s : Shape X) (a b : Limit) → Paired cut a b → (f g : Go → Tokens → Answer X) → ((n : ℕ) (go other : Go) → Deep cut n go other → Takes cut s n (f go) (g other))
+    → (mode : Mode) (m : ℕ) (ts us : Tokens) → Took cut mode m ts us → Goes cut s mode m (f (reader a (length ts + 1)) ts) (g (reader b (length us + 1)) us)
+whole_takes cut s a b p f g h Mode.Past m ts us meets = h 0 (reader a (length ts + 1)) (reader b (length us + 1)) (deep_read cut a b p 0 (length ts + 1) (length us + 1) (omega arith) (omega arith)) Mode.Past m tt ts us meets
+whole_takes cut s a b p f g h Mode.Before m ts us (q, e, e2, le) =
+    raise_to cut s (length q) m le _ _ (h (length q + 1) (reader a (length ts + 1)) (reader b (length us + 1))
+    (deep_read cut a b p (length q + 1) (length ts + 1) (length us + 1) (omega (arith, ap length e, length_cut q cut.here)) (omega (arith, ap length e2, length_cut q cut.there)))
+    Mode.Before (length q) (omega arith) ts us (q, e, e2, omega arith))
+
+-- a whole expression, a type, and a list in a frame, with fuel for all their tokens
+pub whole_expr : (cut : Cut) (a b : Limit) → Paired cut a b → (l : Nesting) (mode : Mode) (m : ℕ) (ts us : Tokens) → Meets cut mode m ts us → Goes cut three mode m (deeper (reader a (length ts + 1)) l ts) (deeper (reader b (length us + 1)) l us)
+whole_expr cut a b p l = whole_goes cut three a b p (λ go ts. deeper go l ts) (λ go ts. deeper go l ts) (λ n go other d. deeper_goes cut n go other d l)
+
+pub whole_type : (cut : Cut) (a b : Limit) → Paired cut a b → (l : Nesting) (mode : Mode) (m : ℕ) (ts us : Tokens) → Meets cut mode m ts us → Goes cut three mode m ((reader a (length ts + 1)).type l ts) ((reader b (length us + 1)).type l us)
+whole_type cut a b p l = whole_goes cut three a b p (λ go ts. go.type l ts) (λ go ts. go.type l ts) (λ n go other d. d.type l)
+
+pub whole_framed : (cut : Cut) (a b : Limit) → Paired cut a b → (i : Item) (end : TerminalKind) (l : Nesting) (mode : Mode) (m : ℕ) (ts us : Tokens) → Took cut mode m ts us
+    → Goes cut two mode m (framed_with (reader a (length ts + 1)) i end l ts) (framed_with (reader b (length us + 1)) i end l us)
+whole_framed cut a b p i end l = whole_takes cut two a b p (λ go ts. framed_with go i end l ts) (λ go ts. framed_with go i end l ts) (λ n go other d. framed_goes cut n go other d i end l)
