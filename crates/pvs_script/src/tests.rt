@@ -1,0 +1,1 @@
+//! Scripts and first faults of small texts, written out by hand.
