@@ -1,2 +1,5 @@
 pub mod Decimal
 pub mod Stacks
+pub mod Turns
+pub mod Runs
+pub mod Taken
