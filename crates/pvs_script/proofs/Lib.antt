@@ -3,3 +3,4 @@ pub mod Stacks
 pub mod Turns
 pub mod Runs
 pub mod Taken
+pub mod Meant
