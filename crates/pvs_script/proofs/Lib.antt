@@ -4,3 +4,4 @@ pub mod Turns
 pub mod Runs
 pub mod Taken
 pub mod Meant
+pub mod Levels

@@ -16,7 +16,7 @@ use Rattle.pvs_script.specs.declared.state.Part.TheVariants as part
 use Rattle.pvs_script.specs.Grammar.{Is, DerivesStep, DerivesSteps, DerivesScript, DerivesScripts, BeginsStep, BeginsScript, negated}
 use Rattle.pvs_script.specs.States.{tree_of, inside, step_of, with_step, script_of, ended, ended_in, closed, in_step, in_tree, behind_nothing, behind_opened, behind_if, behind_minus, behind_step, step_start, step}
 use Rattle.pvs_script.proofs.Stacks.{last_push}
-use Rattle.pvs_script.proofs.Runs.{Tokens, bind, run, runs_on}
+use Rattle.pvs_script.proofs.Runs.{Tokens, run, bound, some_same}
 
 -- the tokens of the trees that are open around the innermost one, each up to the tree inside it
 pub data Around : Tokens → List OpenTree → Type 0 where
@@ -52,10 +52,6 @@ pub data Means : State → Tokens → Type 0 where
   middle : (ts us vs : Tokens) (outer : List OpenTree) (ss : List Step) (p : Part) → Around ts outer → Stepping us ss → InStep vs p → Means (inside outer (tree_of ss []) p) (ts ++ (us ++ vs))
 
 -- ---- what the next token leads to
-
--- two states that are one
-some_same : (s r : State) → Some s ≡ Some r → s ≡ r
-some_same s r e = cc
 
 start_means : (t : Lexeme) (c : Sort) → t.sort ≡ c → (r : State) → step_start c ≡ Some r → Means r (t ∷ [])
 start_means t sort.Open is r e = subst (λ z. Means z (t ∷ [])) (some_same _ r e) (Means.nothing [] (t ∷ []) [] (tree_of [] []) Around.none (Opened.fresh t is))
@@ -192,10 +188,6 @@ token_means _ _ t r (Means.whole ts x d) e = cc
 token_means _ _ t r (Means.nothing ts us outer tree a o) e = nothing_means ts us outer tree t t.sort refl r a o e
 token_means _ _ t r (Means.parenthesis ts us outer tree u a o opened) e = opened_means ts us outer tree u t t.sort refl r a o opened e
 token_means _ _ t r (Means.middle ts us vs outer ss p a o i) e = step_means ts us vs outer ss p t r a o i e
-
-bound : (o : Option State) (ts : Tokens) (r : State) → bind o (λ z. run z ts) ≡ Some r → (s : State) × (o ≡ Some s) × (run s ts ≡ Some r)
-bound None ts r e = cc
-bound (Some s) ts r e = (s, refl, e)
 
 run_means : (us ts : Tokens) (s r : State) → Means s ts → run s us ≡ Some r → Means r (ts ++ us)
 run_means [] ts s r m e = subst (Means r) (sym (append-nil ts)) (subst (λ z. Means z ts) (some_same s r e) m)

@@ -36,6 +36,15 @@ run-append s (t ∷ ts) us = run_bind (step s t) ts us (λ r. run-append r ts us
 pub runs_on : (s r : State) (ts us : Tokens) → run s ts ≡ Some r → run s (ts ++ us) ≡ run r us
 runs_on s r ts us e = run-append s ts us ∙ ap (λ o. bind o (λ r. run r us)) e
 
+-- two states that are one
+pub some_same : (s r : State) → Some s ≡ Some r → s ≡ r
+some_same s r e = cc
+
+-- a token, and those behind it
+pub bound : (o : Option State) (ts : Tokens) (r : State) → bind o (λ z. run z ts) ≡ Some r → (s : State) × (o ≡ Some s) × (run s ts ≡ Some r)
+bound None ts r e = cc
+bound (Some s) ts r e = (s, refl, e)
+
 -- ---- one token
 
 pub start_goes : (t : Lexeme) (ts : Tokens) → Is sort.Open t → run state.Start (t ∷ ts) ≡ run (inside [] (tree_of [] []) part.Nothing) ts
