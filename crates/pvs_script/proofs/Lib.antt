@@ -5,3 +5,5 @@ pub mod Runs
 pub mod Taken
 pub mod Meant
 pub mod Levels
+pub mod Fronts
+pub mod Verdicts
