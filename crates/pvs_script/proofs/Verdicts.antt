@@ -150,3 +150,18 @@ first text proof _ (IsFirstFault.end all is none) =
 
 pub one_fault : (text : List ℕ) (proof : Proof) (f g : Fault) → IsFirstFault text proof f → IsFirstFault text proof g → f ≡ g
 one_fault text proof f g a b = let e = first text proof f a in let h = first text proof g b in cc
+
+-- ---- what a call answers, unless memory runs out
+
+pub gives_found : (text : List ℕ) (proof : Proof) (r : Result Script ScriptFault) → Gives r (script_of text proof) → IfOk r (λ x. IsScript text proof x)
+gives_found text proof (Ok x) g = found text proof x g
+gives_found text proof (Err e) g = tt
+
+pub gives_only : (text : List ℕ) (proof : Proof) (r : Result Script ScriptFault) → Gives r (script_of text proof) → (x : Script) → IsScript text proof x → Gives r (Ok x)
+gives_only text proof r g x s = subst (Gives r) (only text proof x s) g
+
+pub gives_fault : (text : List ℕ) (proof : Proof) (r : Result Script ScriptFault) → Gives r (script_of text proof) → (f : Fault) → r ≡ Err (faults.At f) → IsFirstFault text proof f
+gives_fault text proof r g f e = is_first text proof f (subst (λ z. Gives z (script_of text proof)) e g)
+
+pub gives_first : (text : List ℕ) (proof : Proof) (r : Result Script ScriptFault) → Gives r (script_of text proof) → (f : Fault) → IsFirstFault text proof f → Gives r (Err f)
+gives_first text proof r g f is = subst (Gives r) (first text proof f is) g

@@ -1,7 +1,13 @@
 //! The calls of this crate: the script of a span, and that there is at most one.
 
-ghost use Rattle.std.specs.Prelude.{◌≡◌, ◌≤◌, ◌^◌, List, ℕ, length, IfOk};
+ghost use Rattle.std.specs.Prelude.{◌≡◌, ◌≤◌, ◌^◌, List, ℕ, length, IfOk, Ok, Err};
 ghost use Rattle.pvs_base.specs.Place.{place_after};
+ghost use Rattle.pvs_base.specs.declared.code.Fault as code;
+ghost use Rattle.pvs_syntax.specs.declared.unit.Proof as unit;
+ghost use Rattle.pvs_script.specs.declared.lexeme.Lexeme as lexeme;
+ghost use Rattle.pvs_script.specs.declared.tree.Script as tree;
+ghost use Rattle.pvs_script.specs.Grammar.{DerivesScript, IsScript};
+ghost use Rattle.pvs_script.specs.Faults.{IsFirstFault};
 ghost use Rattle.pvs_script.specs.Reading.{Gives, script_of};
 ghost use Rattle.pvs_script.specs.Reading as spec;
 
@@ -81,14 +87,33 @@ fn read_span(alloc: Global, span: &[u8], pos: Pos) -> Result<Script, ScriptFault
     whole(span, pos, state)
 }
 
-/// The script of a proof, from its span in the text of a unit.
+/// The script of a proof, from its span in the text of a unit of at most 2^20 bytes.
+///
+/// A script is steps and then scripts, in parentheses, at most 200 levels deep. A step is `axiom`,
+/// or `if` and the number of a formula, with a minus sign for an antecedent. A number of more than
+/// nine digits is read as 0, which no formula has.
+///
+/// The fault is the first one of the span, at the place of its token: OutOfProfile, where the
+/// tokens up to this one begin no script; TooNested, where they do and it opens level 201; BadByte
+/// or UnclosedQuote, where no token begins. OutOfProfile at the place after the last byte is for a
+/// span that ends too early.
 pub fn read_script(alloc: Global, text: &[u8], proof: &Proof) -> Result<Script, ScriptFault>
     requires text { length text.now ≤ 2 ^ 20 }
     requires order { proof.now.start ≤ proof.now.end }
     requires within { proof.now.end ≤ length text.now }
     requires line { proof.now.pos.line ≤ 2 ^ 30 }
     requires col { proof.now.pos.col ≤ 2 ^ 30 }
+
+    // Which script or which fault it is.
     ensures gives { Gives result (script_of text.now proof.now) }
+
+    // A script that is answered is one by the grammar, and one by the grammar is answered.
+    ensures found { IfOk result (λ x. IsScript text.now proof.now x) }
+    ensures only { (x : tree.Script) → IsScript text.now proof.now x → Gives result (Ok x) }
+
+    // A fault that is answered is the first one, and the first one is answered.
+    ensures fault { (f : code.Fault) → result ≡ Err (ScriptFault.At f) → IsFirstFault text.now proof.now f }
+    ensures first { (f : code.Fault) → IsFirstFault text.now proof.now f → Gives result (Err f) }
 {
     read_span(
         alloc,
@@ -97,5 +122,12 @@ pub fn read_script(alloc: Global, text: &[u8], proof: &Proof) -> Result<Script, 
     )
 }
 
-/// The tokens of a span are at most one script.
-pub fn one_script() {}
+/// Tokens are at most one script.
+pub fn one_script()
+    ensures { (ts : List lexeme.Lexeme) (x y : tree.Script) → DerivesScript ts x → DerivesScript ts y → x ≡ y }
+{}
+
+/// A span has at most one first fault.
+pub fn one_fault()
+    ensures { (text : List ℕ) (proof : unit.Proof) (f g : code.Fault) → IsFirstFault text proof f → IsFirstFault text proof g → f ≡ g }
+{}
