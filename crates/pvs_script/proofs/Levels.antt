@@ -119,7 +119,7 @@ run_counts [] ts s r e f = subst (λ z. ups z ≡ downs z + depth r) (sym (appen
 run_counts (t ∷ us) ts s r e f =
     let b = bound (step s t) us r f in
     let here : ups (ts ++ t ∷ []) ≡ downs (ts ++ t ∷ []) + depth b.0 =
-      ups-push ts t ∙ counted t.sort (ups ts) (downs ts) (depth s) (depth b.0) (token_moves s t b.0 b.1) e ∙ ap (λ n. n + depth b.0) (sym (downs-push ts t)) in
+    ups-push ts t ∙ counted t.sort (ups ts) (downs ts) (depth s) (depth b.0) (token_moves s t b.0 b.1) e ∙ ap (λ n. n + depth b.0) (sym (downs-push ts t)) in
     subst (λ z. ups z ≡ downs z + depth r) (append_assoc ts (t ∷ []) us) (run_counts us (ts ++ t ∷ []) b.0 r here b.2)
 
 pub level_is : (ts : Tokens) (r : State) → run state.Start ts ≡ Some r → level ts ≡ depth r

@@ -117,7 +117,7 @@ inner_means ts _ outer _ t u (s ∷ ss) r a (Opened.fresh w first) opened is sam
 inner_means ts _ outer _ t u (s ∷ ss) r a (Opened.full vs ws zs xs w first d f) opened is same e =
     let us = w ∷ (vs ++ ws) in
     let shape : (ts ++ (us ++ t ∷ [])) ++ u ∷ [] ≡ (ts ++ us) ++ ((t ∷ []) ++ u ∷ []) =
-      ap (λ z. z ++ u ∷ []) (sym (append_assoc ts us (t ∷ []))) ∙ append_assoc (ts ++ us) (t ∷ []) (u ∷ []) in
+    ap (λ z. z ++ u ∷ []) (sym (append_assoc ts us (t ∷ []))) ∙ append_assoc (ts ++ us) (t ∷ []) (u ∷ []) in
     subst (λ z. Means z ((ts ++ (us ++ t ∷ [])) ++ u ∷ [])) (some_same _ r e)
     (subst (Means (inside (outer ++ tree_of zs xs ∷ []) (tree_of [] []) (part.Opened u.pos))) (sym shape)
     (Means.parenthesis (ts ++ us) (t ∷ []) (outer ++ tree_of zs xs ∷ []) (tree_of [] []) u (Around.more ts vs ws outer zs xs w a first d f) (Opened.fresh t opened) is))

@@ -118,9 +118,11 @@ step_runs _ (BeginsStep.consequent t u v opened word num) outer zs =
     (_, open_goes outer (tree_of zs []) t (u ∷ v ∷ []) opened ∙ if_goes outer zs t.pos u (v ∷ []) word ∙ number_goes outer (tree_of zs []) t.pos v [] num)
 step_runs _ (BeginsStep.minus t u v opened word minus) outer zs =
     (_, open_goes outer (tree_of zs []) t (u ∷ v ∷ []) opened ∙ if_goes outer zs t.pos u (v ∷ []) word ∙ minus_goes outer (tree_of zs []) t.pos v [] minus)
-step_runs _ (BeginsStep.antecedent t u v w opened word minus num) outer zs =
-    (_, open_goes outer (tree_of zs []) t (u ∷ v ∷ w ∷ []) opened ∙ if_goes outer zs t.pos u (v ∷ w ∷ []) word ∙ minus_goes outer (tree_of zs []) t.pos v (w ∷ []) minus
-    ∙ negated_goes outer (tree_of zs []) t.pos w [] num)
+step_runs _ (BeginsStep.antecedent t u v w opened word minus num) outer zs = (
+  _,
+  open_goes outer (tree_of zs []) t (u ∷ v ∷ w ∷ []) opened ∙ if_goes outer zs t.pos u (v ∷ w ∷ []) word ∙ minus_goes outer (tree_of zs []) t.pos v (w ∷ []) minus
+      ∙ negated_goes outer (tree_of zs []) t.pos w [] num,
+)
 step_runs _ (BeginsStep.closed ts s d) outer zs = (_, step_taken ts s d outer zs)
 
 -- nothing, or a parenthesis first

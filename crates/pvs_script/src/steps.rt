@@ -79,7 +79,7 @@ fn behind_nothing(nest: Nest, token: &Lexeme) -> Result<Option<State>, AllocErro
         Sort::Open => Ok(with_part(nest, Part::Opened(token.pos))),
         Sort::Close => match nest.tree.steps.as_slice() {
             [] => Ok(None),
-            _ => {
+            [_, ..] => {
                 let state = end_tree(nest)?;
                 Ok(Some(state))
             }
@@ -94,7 +94,7 @@ fn in_step(nest: Nest, part: Part) -> Option<State>
 {
     match nest.tree.trees.as_slice() {
         [] => with_part(nest, part),
-        _ => None,
+        [_, ..] => None,
     }
 }
 
