@@ -1,19 +1,18 @@
 -- Where reading stops: the tokens before may begin a script, and that token can't stand behind them.
-use Rattle.std.proofs.Common.{◌≡◌, ◌∙◌, ℕ, ◌<◌, ◌≤◌, nat_lt, Bool, true, false, if◌then◌else◌, ◌⊎◌, inl, inr, List, [], ◌∷◌, ◌++◌, Option, Some, None, Result, Ok, Err, refl, sym, ap, subst, append_assoc, append-nil, arith}
+use Rattle.std.proofs.Common.{◌≡◌, ◌∙◌, ◌≤◌, Bool, true, false, if◌then◌else◌, [], ◌∷◌, ◌++◌, Option, Some, None, Result, Ok, Err, refl, sym, ap, subst, append_assoc, arith}
 use Rattle.std.proofs.lemmas.Bool.{ltb-true, ltb-false}
 use Rattle.pvs_base.specs.declared.code.Fault.{Fault}
 use Rattle.pvs_base.specs.declared.code.Code.{Code}
 use Rattle.pvs_base.specs.declared.code.Code.TheVariants.{OutOfProfile, TooNested}
 use Rattle.pvs_base.specs.declared.place.Pos.{Pos}
 use Rattle.pvs_script.specs.declared.lexeme.Lexeme.{Lexeme}
-use Rattle.pvs_script.specs.declared.lexeme.Sort.TheVariants as sort
 use Rattle.pvs_script.specs.declared.state.State.{State}
 use Rattle.pvs_script.specs.declared.state.State.TheVariants as state
-use Rattle.pvs_script.specs.Grammar.{Is, BeginsScript, level}
+use Rattle.pvs_script.specs.Grammar.{BeginsScript}
 use Rattle.pvs_script.specs.Faults.{MayBegin, AllMayBegin, IsRefused}
 use Rattle.pvs_script.specs.States.{step, depth, is_deep}
 use Rattle.pvs_script.specs.Reading.{◌>>=◌, fault_at, limited, take_token, take_tokens}
-use Rattle.pvs_script.proofs.Runs.{Tokens, bind, run, bound, some_same, runs_on}
+use Rattle.pvs_script.proofs.Runs.{Tokens, bind, run, runs_on}
 use Rattle.pvs_script.proofs.Taken.{begins_runs}
 use Rattle.pvs_script.proofs.Meant.{means, means_begins}
 use Rattle.pvs_script.proofs.Levels.{token_moves, level_is, deep_open}

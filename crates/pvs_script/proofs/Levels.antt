@@ -1,5 +1,5 @@
 -- How many parentheses are open behind the tokens.
-use Rattle.std.proofs.Common.{◌≡◌, ◌∙◌, ℕ, zero, suc, ◌+◌, ◌-◌, ◌<◌, ◌≤◌, Bool, true, false, cond, pos, List, [], ◌∷◌, ◌++◌, length, Option, Some, None, refl, sym, ap, ap₂, subst, append_assoc, append-nil, length-append, arith}
+use Rattle.std.proofs.Common.{◌≡◌, ◌∙◌, ℕ, suc, ◌+◌, ◌<◌, ◌≤◌, cond, List, [], ◌∷◌, ◌++◌, length, Some, refl, sym, ap, subst, append_assoc, append-nil, length-append, arith}
 use Rattle.std.specs.Prelude.{count_by}
 use Rattle.std.proofs.lemmas.List.Sums.{sum_by-append}
 use Rattle.pvs_base.specs.declared.place.Pos.{Pos}
@@ -13,9 +13,9 @@ use Rattle.pvs_script.specs.declared.state.State.TheVariants as state
 use Rattle.pvs_script.specs.declared.state.OpenTree.{OpenTree}
 use Rattle.pvs_script.specs.declared.state.Part.{Part}
 use Rattle.pvs_script.specs.declared.state.Part.TheVariants as part
-use Rattle.pvs_script.specs.Grammar.{Is, opens, closes, level}
-use Rattle.pvs_script.specs.States.{tree_of, inside, script_of, with_step, behind_first, last_of, ended, closed, in_step, in_tree, behind_nothing, behind_opened, behind_if, behind_minus, behind_step, step_start, step_inside, step, part_depth, depth}
-use Rattle.pvs_script.proofs.Runs.{Tokens, bind, run, bound, some_same}
+use Rattle.pvs_script.specs.Grammar.{opens, closes, level}
+use Rattle.pvs_script.specs.States.{script_of, behind_first, last_of, ended, closed, in_step, in_tree, behind_nothing, behind_opened, behind_if, behind_minus, behind_step, step_start, step_inside, step, part_depth, depth}
+use Rattle.pvs_script.proofs.Runs.{Tokens, run, bound, some_same}
 
 -- what a token of a sort makes of a number of open parentheses
 abbrev pub Moves : Sort → ℕ → ℕ → Type 0

@@ -7,3 +7,4 @@ pub mod Meant
 pub mod Levels
 pub mod Fronts
 pub mod Verdicts
+pub mod CallerLemmas

@@ -1,13 +1,11 @@
 -- What the tokens that are read so far are.
-use Rattle.std.proofs.Common.{◌≡◌, ◌∙◌, pos, List, [], ◌∷◌, ◌++◌, Option, Some, None, refl, sym, ap, subst, append_assoc, append-nil}
-use Rattle.pvs_base.specs.declared.place.Pos.{Pos}
+use Rattle.std.proofs.Common.{◌≡◌, ◌∙◌, pos, List, [], ◌∷◌, ◌++◌, Some, refl, sym, ap, subst, append_assoc, append-nil}
 use Rattle.pvs_script.specs.declared.lexeme.Lexeme.{Lexeme}
 use Rattle.pvs_script.specs.declared.lexeme.Sort.{Sort}
 use Rattle.pvs_script.specs.declared.lexeme.Sort.TheVariants as sort
 use Rattle.pvs_script.specs.declared.tree.Rule.TheVariants as rule
 use Rattle.pvs_script.specs.declared.tree.Step.{Step}
 use Rattle.pvs_script.specs.declared.tree.Script.{Script}
-use Rattle.pvs_script.specs.declared.tree.Script.TheViews.{roll-Script}
 use Rattle.pvs_script.specs.declared.state.State.{State}
 use Rattle.pvs_script.specs.declared.state.State.TheVariants as state
 use Rattle.pvs_script.specs.declared.state.OpenTree.{OpenTree}

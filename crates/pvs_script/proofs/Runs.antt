@@ -5,7 +5,6 @@ use Rattle.pvs_script.specs.declared.lexeme.Lexeme.{Lexeme}
 use Rattle.pvs_script.specs.declared.lexeme.Sort.TheVariants as sort
 use Rattle.pvs_script.specs.declared.tree.Rule.TheVariants as rule
 use Rattle.pvs_script.specs.declared.tree.Step.{Step}
-use Rattle.pvs_script.specs.declared.tree.Script.{Script}
 use Rattle.pvs_script.specs.declared.state.State.{State}
 use Rattle.pvs_script.specs.declared.state.State.TheVariants as state
 use Rattle.pvs_script.specs.declared.state.OpenTree.{OpenTree}

@@ -1,5 +1,5 @@
 -- The last of a list of open trees.
-use Rattle.std.proofs.Common.{◌≡◌, ◌∙◌, ap, List, [], ◌∷◌, ◌++◌, Some, refl}
+use Rattle.std.proofs.Common.{◌≡◌, ap, List, [], ◌∷◌, ◌++◌, Some, refl}
 use Rattle.pvs_script.specs.declared.state.OpenTree.{OpenTree}
 use Rattle.pvs_script.specs.States.{behind_first, last_of}
 

@@ -1,20 +1,19 @@
 -- What is in the grammar is read, and what begins a script is taken.
-use Rattle.std.proofs.Common.{◌≡◌, ◌∙◌, pos, List, [], ◌∷◌, ◌++◌, Option, Some, None, refl, sym, ap, subst, append_assoc, append-nil}
+use Rattle.std.proofs.Common.{◌≡◌, ◌∙◌, pos, List, [], ◌∷◌, ◌++◌, Some, refl, sym, ap, subst, append_assoc, append-nil}
 use Rattle.pvs_base.specs.declared.place.Pos.{Pos}
 use Rattle.pvs_script.specs.declared.lexeme.Lexeme.{Lexeme}
 use Rattle.pvs_script.specs.declared.lexeme.Sort.TheVariants as sort
 use Rattle.pvs_script.specs.declared.tree.Rule.TheVariants as rule
 use Rattle.pvs_script.specs.declared.tree.Step.{Step}
 use Rattle.pvs_script.specs.declared.tree.Script.{Script}
-use Rattle.pvs_script.specs.declared.tree.Script.TheViews.{roll-Script}
 use Rattle.pvs_script.specs.declared.state.State.{State}
 use Rattle.pvs_script.specs.declared.state.State.TheVariants as state
 use Rattle.pvs_script.specs.declared.state.OpenTree.{OpenTree}
 use Rattle.pvs_script.specs.declared.state.Part.TheVariants as part
 use Rattle.pvs_script.specs.Grammar.{Is, DerivesStep, DerivesSteps, DerivesScript, DerivesScripts, BeginsStep, BeginsScript, negated}
-use Rattle.pvs_script.specs.States.{tree_of, inside, step_of, with_tree, script_of, ended, ended_in, step_start, step}
+use Rattle.pvs_script.specs.States.{tree_of, inside, step_of, script_of, ended, ended_in}
 use Rattle.pvs_script.proofs.Stacks.{last_push}
-use Rattle.pvs_script.proofs.Runs.{Tokens, bind, run, runs_on, start_goes, open_goes, axiom_goes, if_goes, number_goes, minus_goes, negated_goes, step_goes, close_goes, enters, HasStep}
+use Rattle.pvs_script.proofs.Runs.{Tokens, run, runs_on, start_goes, open_goes, axiom_goes, if_goes, number_goes, minus_goes, negated_goes, step_goes, close_goes, enters, HasStep}
 
 -- inside a tree with these steps and no tree
 abbrev stepping : List OpenTree → List Step → State

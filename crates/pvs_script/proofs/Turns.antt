@@ -1,16 +1,13 @@
 -- Reading one token, and then those behind it.
-use Rattle.std.proofs.Common.{◌≡◌, ◌∙◌, ap, refl, sym, ℕ, List, [], ◌∷◌, map, Option, Some, None, Result, Ok, Err}
+use Rattle.std.proofs.Common.{◌≡◌, ◌∙◌, ap, refl, ℕ, List, [], ◌∷◌, map, Option, Some, None, Result, Ok, Err}
 use Rattle.pvs_base.specs.declared.code.Fault.{Fault}
 use Rattle.pvs_base.specs.declared.place.Pos.{Pos}
 use Rattle.pvs_lexer.specs.declared.token.Token.{Token}
 use Rattle.pvs_lexer.specs.Answers.{first_of, behind_first, answer_of, behind_answer}
 use Rattle.pvs_lexer.specs.Tokens.{Lexed}
-use Rattle.pvs_script.specs.declared.fault.ScriptFault.{ScriptFault}
-use Rattle.pvs_script.specs.declared.fault.ScriptFault.TheVariants as faults
-use Rattle.pvs_script.specs.declared.tree.Script.{Script}
 use Rattle.pvs_script.specs.declared.state.State.{State}
 use Rattle.pvs_script.specs.Tokens.{lexeme}
-use Rattle.pvs_script.specs.Reading.{◌>>=◌, Fails, Gives, take_token, take_tokens, ending, read_lexed}
+use Rattle.pvs_script.specs.Reading.{◌>>=◌, take_token, take_tokens, read_lexed}
 
 pub bind_bind : {A B C : Type 0} (r : Result A Fault) (f : A → Result B Fault) (g : B → Result C Fault) → ((r >>= f) >>= g) ≡ (r >>= λ x. f x >>= g)
 bind_bind (Ok x) f g = refl

@@ -1,5 +1,5 @@
 -- What is read of a script, one token at a time and without looking ahead.
-use Rattle.std.specs.Prelude.{◌≡◌, ℕ, suc, ◌+◌, nat_lt, Bool, pos, List, [], ◌∷◌, ◌++◌, length, Option, Some, None}
+use Rattle.std.specs.Prelude.{ℕ, ◌+◌, nat_lt, Bool, pos, List, [], ◌∷◌, ◌++◌, length, Option, Some, None}
 use Rattle.pvs_base.specs.declared.place.Pos.{Pos}
 use Rattle.pvs_script.specs.declared.lexeme.Lexeme.{Lexeme}
 use Rattle.pvs_script.specs.declared.lexeme.Sort.{Sort}
