@@ -32,7 +32,7 @@ pub struct OpenTree {
 }
 
 /// What stands behind the last whole part of the innermost tree.
-#[derive(Clone, Copy, Debug, PartialEq, Eq)]
+#[derive(Clone, Copy)]
 pub enum Part {
     Nothing,
     /// A parenthesis at this place.

@@ -47,7 +47,7 @@ fn start(alloc: Global, token: &Lexeme) -> Option<State>
     }
 }
 
-/// The innermost tree ends, and is one of the tree around it.
+/// The innermost tree ends: it is the whole script, or one of the trees of the one around it.
 #[tactic(auto, using(crate::proofs::Stacks::last_push))]
 fn end_tree(nest: Nest) -> Result<State, AllocError>
     ensures { IfOk result (λ s. s ≡ spec.ended nest.outer (spec.script_of nest.tree)) }
@@ -72,6 +72,8 @@ fn end_tree(nest: Nest) -> Result<State, AllocError>
     }))
 }
 
+/// Behind the parenthesis of a tree, or a whole part of it, a step or a tree may begin, and a
+/// tree with a step may end.
 fn behind_nothing(nest: Nest, token: &Lexeme) -> Result<Option<State>, AllocError>
     ensures { IfOk result (λ s. s ≡ spec.behind_nothing token.now nest.outer nest.tree token.now.sort) }
 {
@@ -98,7 +100,7 @@ fn in_step(nest: Nest, part: Part) -> Option<State>
     }
 }
 
-/// A tree begins with two parentheses, which stands behind a step.
+/// A tree begins, which stands behind a step: two parentheses.
 fn in_tree(alloc: Global, nest: Nest, pos: Pos) -> Result<Option<State>, AllocError>
     ensures { IfOk result (λ s. s ≡ spec.in_tree nest.outer nest.tree pos nest.tree.steps) }
 {
@@ -118,6 +120,7 @@ fn in_tree(alloc: Global, nest: Nest, pos: Pos) -> Result<Option<State>, AllocEr
     })))
 }
 
+/// Behind a further parenthesis in a tree.
 fn behind_opened(
     alloc: Global,
     nest: Nest,
@@ -137,6 +140,7 @@ fn behind_opened(
     }
 }
 
+/// Behind `if`.
 fn behind_if(nest: Nest, pos: Pos, token: &Lexeme) -> Option<State>
     ensures { result ≡ spec.behind_if token.now nest.outer nest.tree pos token.now.sort }
 {
@@ -150,6 +154,7 @@ fn behind_if(nest: Nest, pos: Pos, token: &Lexeme) -> Option<State>
     }
 }
 
+/// Behind `if` and a minus sign.
 fn behind_minus(nest: Nest, pos: Pos, token: &Lexeme) -> Option<State>
     ensures { result ≡ spec.behind_minus token.now nest.outer nest.tree pos token.now.sort }
 {
@@ -162,6 +167,7 @@ fn behind_minus(nest: Nest, pos: Pos, token: &Lexeme) -> Option<State>
     }
 }
 
+/// Behind all of a step but its closing parenthesis.
 fn behind_step(nest: Nest, step: Step, token: &Lexeme) -> Result<Option<State>, AllocError>
     ensures { IfOk result (λ s. s ≡ spec.behind_step nest.outer nest.tree step token.now.sort) }
 {
