@@ -25,3 +25,4 @@ pub mod Texts
 pub mod ScriptSpans
 pub mod Cuts
 pub mod Locality
+pub mod UnitLocality

@@ -168,40 +168,40 @@ item_goes cut n go other d Item.Definition l = definition_goes cut n go other d 
 -- ---- lists
 
 -- so many turns are enough for the tokens before the cut and these behind it
-abbrev Fits : Mode → Tokens → ℕ → ℕ → Type 0
+abbrev pub Fits : Mode → Tokens → ℕ → ℕ → Type 0
 Fits Mode.Past behind m k = Unit {0}
 Fits Mode.Before behind m k = m + length behind ≤ k
 
-fits_less : (mode : Mode) (behind : Tokens) (m k : ℕ) → Low mode (m - 1) m → Fits mode behind m (suc k) → Fits mode behind (m - 1) k
+pub fits_less : (mode : Mode) (behind : Tokens) (m k : ℕ) → Low mode (m - 1) m → Fits mode behind m (suc k) → Fits mode behind (m - 1) k
 fits_less Mode.Past behind m k h f = tt
 fits_less Mode.Before behind m k h f = omega (arith, h, f)
 
-fits_later : (mode later : Mode) (behind : Tokens) (m k : ℕ) → Later mode later → Fits mode behind m k → Fits later behind m k
+pub fits_later : (mode later : Mode) (behind : Tokens) (m k : ℕ) → Later mode later → Fits mode behind m k → Fits later behind m k
 fits_later Mode.Past Mode.Past behind m k l f = tt
 fits_later Mode.Past Mode.Before behind m k l f = absurd l
 fits_later Mode.Before Mode.Past behind m k l f = tt
 fits_later Mode.Before Mode.Before behind m k l f = f
 
 -- the entries that two readings of a list may have: as many, or one more is excused and there is room in the other
-abbrev Enough : Cut → Mode → ℕ → ℕ → ℕ → Type 0
+abbrev pub Enough : Cut → Mode → ℕ → ℕ → ℕ → Type 0
 Enough cut mode k j m = (k ≡ j) ⊎ ((cut.excused reason.TooNested ≡ true) × Fits mode cut.there m j)
 
 -- what is read in two ways, where the other one takes only what may begin an item
-record Items {A : Type 0} (cut : Cut) (n : ℕ) (starts : TerminalKind → Bool) (reads others : Nesting → Tokens → Read A) : Type 0 where
-  reading : (l : Nesting) → Enters cut three n (reads l) (others l)
-  rejects : (l : Nesting) (t : Terminal) (ts : Tokens) → starts t.kind ≡ false → others l (t ∷ ts) ≡ stop (t ∷ ts)
+pub record Items {A : Type 0} (cut : Cut) (n : ℕ) (starts : TerminalKind → Bool) (reads others : Nesting → Tokens → Read A) : Type 0 where
+  pub reading : (l : Nesting) → Enters cut three n (reads l) (others l)
+  pub rejects : (l : Nesting) (t : Terminal) (ts : Tokens) → starts t.kind ≡ false → others l (t ∷ ts) ≡ stop (t ∷ ts)
 
 many_stop : {X : Type 0} (cut : Cut) (s : Shape X) (ts : Tokens) → length ts ≤ length cut.here → Shrinks cut s (too_many ts)
 many_stop cut s ts h = h
 
-crowded_past : {A : Type 0} (cut : Cut) (s : Shape A) (starts : TerminalKind → Bool) (ts : Tokens) → length ts ≤ length cut.here → Shrinks cut s (crowded starts ts)
+pub crowded_past : {A : Type 0} (cut : Cut) (s : Shape A) (starts : TerminalKind → Bool) (ts : Tokens) → length ts ≤ length cut.here → Shrinks cut s (crowded starts ts)
 crowded_past cut s starts [] h = h
 crowded_past cut s starts (t ∷ ts) h = one (starts t.kind) where
   one : (b : Bool) → Shrinks cut s (if b then too_many (t ∷ ts) else stop (t ∷ ts))
   one true = h
   one false = h
 
-list_past : {A : Type 0} (cut : Cut) (n : ℕ) (starts : TerminalKind → Bool) (reads others : Nesting → Tokens → Read A) → Items cut n starts reads others → (k : ℕ) (found : List A) (l : Nesting) (ts : Tokens) → length ts ≤ length cut.here
+pub list_past : {A : Type 0} (cut : Cut) (n : ℕ) (starts : TerminalKind → Bool) (reads others : Nesting → Tokens → Read A) → Items cut n starts reads others → (k : ℕ) (found : List A) (l : Nesting) (ts : Tokens) → length ts ≤ length cut.here
     → Shrinks cut three (list_from starts reads k found l ts)
 unfolding list_from
 list_past cut n starts reads others i zero found l ts h = crowded_past cut three starts ts h
@@ -225,7 +225,7 @@ crowded_excused {A = A} cut n starts reads others i ex mode m j found l ts us h 
       subst (λ z. Goes cut three a m (stop (t ∷ vs)) (z >>= λ p. either (after kind.Comma p.2) (λ us. list_from starts others j (found ++ p.0 ∷ []) (cleared p.1) us) (Ok (found ++ p.0 ∷ [], p.1, p.2))))
       (sym (i.rejects l t ws is)) (stops cut three a m (t ∷ vs) (t ∷ ws) meets)
 
-crowded_goes : {X : Type 0} (cut : Cut) (s : Shape X) (starts : TerminalKind → Bool) (mode : Mode) (m : ℕ) (ts us : Tokens) → Meets cut mode m ts us → Goes cut s mode m (crowded starts ts) (crowded starts us)
+pub crowded_goes : {X : Type 0} (cut : Cut) (s : Shape X) (starts : TerminalKind → Bool) (mode : Mode) (m : ℕ) (ts us : Tokens) → Meets cut mode m ts us → Goes cut s mode m (crowded starts ts) (crowded starts us)
 crowded_goes cut s starts mode m ts us h =
     heads cut s mode m (λ z. crowded starts z) (λ z. crowded starts z) ts us h (omega arith) (λ a la t vs ws meets took less. pick cut s a m (starts t.kind) _ _ _ _ (λ e. too_many_goes cut s a m t vs ws meets) (λ e. stops cut s a m (t ∷ vs) (t ∷ ws) meets))
 
@@ -236,7 +236,7 @@ enough_less : (cut : Cut) (mode later : Mode) (k j m : ℕ) → Later mode later
 enough_less cut mode later k j m l h (inl e) = inl (same_turns k j e)
 enough_less cut mode later k j m l h (inr e) = inr (e.0, fits_less later cut.there m j h (fits_later mode later cut.there m (suc j) l e.1))
 
-list_goes : {A : Type 0} (cut : Cut) (n : ℕ) (starts : TerminalKind → Bool) (reads others : Nesting → Tokens → Read A) → Items cut n starts reads others → (k j : ℕ) (mode : Mode) (m : ℕ) → Low mode m n → Enough cut mode k j m → (found : List A) (l : Nesting) (ts us : Tokens)
+pub list_goes : {A : Type 0} (cut : Cut) (n : ℕ) (starts : TerminalKind → Bool) (reads others : Nesting → Tokens → Read A) → Items cut n starts reads others → (k j : ℕ) (mode : Mode) (m : ℕ) → Low mode m n → Enough cut mode k j m → (found : List A) (l : Nesting) (ts us : Tokens)
     → Meets cut mode m ts us → Goes cut three mode m (list_from starts reads k found l ts) (list_from starts others j found l us)
 unfolding list_from
 list_goes cut n starts reads others i zero zero mode m low en found l ts us h = crowded_goes cut three starts mode m ts us h
@@ -252,7 +252,7 @@ list_goes cut n starts reads others i (suc k) (suc j) mode m low en found l ts u
     (λ b lb less vs ys took. list_goes cut n starts reads others i k j b (m - 1) (low_less b m n less (low_more b m n (low_later a b m n lb (low_later mode a m n la low)))) (enough_less cut mode b k j m (later_trans mode a b la lb) less en) (found ++ x.0 ∷ []) (cleared x.1) vs ys (weaken cut b (m - 1) vs ys took))
     (λ b lb vs ys meets2. done_three cut b m (found ++ x.0 ∷ []) x.1 vs ys meets2))
 
-id_stops : {Y : Type 0} (t : Terminal) (ts : Tokens) (f : Word × Tokens → Answer Y) → is_id t.kind ≡ false → (id (t ∷ ts) >>= f) ≡ stop (t ∷ ts)
+pub id_stops : {Y : Type 0} (t : Terminal) (ts : Tokens) (f : Word × Tokens → Answer Y) → is_id t.kind ≡ false → (id (t ∷ ts) >>= f) ≡ stop (t ∷ ts)
 id_stops t ts f is = ap (λ b. (if b then Ok (t.word, ts) else stop (t ∷ ts)) >>= f) is
 
 or_left : (a b : Bool) → a || b ≡ false → a ≡ false
@@ -283,11 +283,11 @@ items : (cut : Cut) (n : ℕ) (go other : Go) → Deep cut n go other → (i : I
 items cut n go other d i = record { reading = λ l. item_goes cut n go other d i l; rejects = λ l t ts is. rejects_item cut n go other d i l t ts is }
 
 -- a list that starts with so many tokens before the cut at most has as many entries in both readings, or enough in the other
-start_enough : (cut : Cut) (a b : Limit) → Lists cut a b → (ts q : Tokens) → Enough cut Mode.Before (entries a ts) (entries b (q ++ cut.there)) (length q)
+pub start_enough : (cut : Cut) (a b : Limit) → Lists cut a b → (ts q : Tokens) → Enough cut Mode.Before (entries a ts) (entries b (q ++ cut.there)) (length q)
 start_enough cut a b (k, e, inl f) ts q = inl (ap (λ z. entries z ts) e ∙ sym (ap (λ z. entries z (q ++ cut.there)) f))
 start_enough cut a b (k, e, inr f) ts q = inr (f.1, subst (λ z. length q + length cut.there ≤ z) (sym (length_cut q cut.there) ∙ sym (ap (λ z. entries z (q ++ cut.there)) f.0)) (omega arith))
 
-raise_to : {X : Type 0} (cut : Cut) (s : Shape X) (m n : ℕ) → m ≤ n → (o p : Answer X) → Agrees cut s m o p → Agrees cut s n o p
+pub raise_to : {X : Type 0} (cut : Cut) (s : Shape X) (m n : ℕ) → m ≤ n → (o p : Answer X) → Agrees cut s m o p → Agrees cut s n o p
 raise_to cut s m n le (Ok x) p (inl h) = inl h
 raise_to cut s m n le (Ok x) p (inr h) = inr (h.0, h.1, h.2, h.3, omega (arith, h.4, le))
 raise_to cut s m n le (Err e) p h = h
@@ -391,17 +391,17 @@ term_past cut n go other d (suc k) b x l ts h =
     (λ vs lt. bind_past cut three three (project go.limit x l vs) _ (project_goes cut n go other d x l Mode.Past 0 tt vs vs lt) (λ y hy. term_past cut n go other d k true y.0 y.1 y.2 hy)) (λ vs lt. lt))
 
 -- what a turn is enough for, in both readings
-abbrev Turns : Cut → Mode → ℕ → ℕ → ℕ → Type 0
+abbrev pub Turns : Cut → Mode → ℕ → ℕ → ℕ → Type 0
 Turns cut mode k j m = Fits mode cut.here m k × Fits mode cut.there m j
 
-turns_less : (cut : Cut) (mode later : Mode) (k j m : ℕ) → Later mode later → Low later (m - 1) m → Turns cut mode (suc k) (suc j) m → Turns cut later k j (m - 1)
+pub turns_less : (cut : Cut) (mode later : Mode) (k j m : ℕ) → Later mode later → Low later (m - 1) m → Turns cut mode (suc k) (suc j) m → Turns cut later k j (m - 1)
 turns_less cut mode later k j m l h t = (fits_less later cut.here m k h (fits_later mode later cut.here m (suc k) l t.0), fits_less later cut.there m j h (fits_later mode later cut.there m (suc j) l t.1))
 
-turns_later : (cut : Cut) (mode later : Mode) (k j m : ℕ) → Later mode later → Turns cut mode k j m → Turns cut later k j m
+pub turns_later : (cut : Cut) (mode later : Mode) (k j m : ℕ) → Later mode later → Turns cut mode k j m → Turns cut later k j m
 turns_later cut mode later k j m l t = (fits_later mode later cut.here m k l t.0, fits_later mode later cut.there m j l t.1)
 
 -- where no turn is left in a reading before the cut, it is at the cut
-no_turn : (cut : Cut) (m : ℕ) (behind ts q : Tokens) → ts ≡ q ++ cut.here → length q ≤ m → m + length behind ≤ 0 → length ts ≤ length cut.here
+pub no_turn : (cut : Cut) (m : ℕ) (behind ts q : Tokens) → ts ≡ q ++ cut.here → length q ≤ m → m + length behind ≤ 0 → length ts ≤ length cut.here
 no_turn cut m behind ts q e le fits = omega (arith, ap length e, length_cut q cut.here, le, fits)
 
 term_goes : (cut : Cut) (n : ℕ) (go other : Go) → Deep cut n go other → (k j : ℕ) (mode : Mode) (m : ℕ) → Low mode m (n + 1) → Turns cut mode k j m → (b : Bool) (x : Expr) (l : Nesting) (ts us : Tokens) → Meets cut mode m ts us
@@ -698,6 +698,7 @@ no_type_read b (suc j) l t ts is = no_type_of (reader b j) l t ts t.kind is
 pub record Paired (cut : Cut) (a b : Limit) : Type 0 where
   pub rooms : Rooms cut a b
   pub lists : Lists cut a b
+  pub some : (t : Terminal) (ts : Tokens) → 1 ≤ entries a (t ∷ ts)
 
 rooms_read : (cut : Cut) (a b : Limit) (k j : ℕ) → Paired cut a b → Rooms cut (reader a k).limit (reader b j).limit
 rooms_read cut a b k j p = subst (λ z. Rooms cut z (reader b j).limit) (sym (reader_limit a k)) (subst (λ z. Rooms cut a z) (sym (reader_limit b j)) p.rooms)
