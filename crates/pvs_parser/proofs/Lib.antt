@@ -10,3 +10,4 @@ pub mod DescentComplete
 pub mod Wholes
 pub mod OneExpression
 pub mod Worked
+pub mod Halts
