@@ -11,3 +11,4 @@ pub mod Wholes
 pub mod OneExpression
 pub mod Worked
 pub mod Halts
+pub mod HaltsWiden
