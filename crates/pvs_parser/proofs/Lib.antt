@@ -12,3 +12,4 @@ pub mod OneExpression
 pub mod Worked
 pub mod Halts
 pub mod HaltsWiden
+pub mod HaltsBegins
