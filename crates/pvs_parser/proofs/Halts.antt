@@ -14,7 +14,7 @@ use Rattle.pvs_parser.specs.Terminals.{Is, IsId, is_id, same_kind}
 use Rattle.pvs_parser.specs.Language.{Limit, Tokens, IsBelow, HasRoom, level, marked, before_call}
 use Rattle.pvs_parser.specs.Descent.{Answer, ◌>>=◌, either, stop, expect, id, number, is_below, with_room, too_deep, call_mark, prefix, begins, begins_of}
 use Rattle.pvs_parser.proofs.Yields.{Yields}
-use Rattle.pvs_parser.proofs.DescentSteps.{Comes, expect_yields, Splits}
+use Rattle.pvs_parser.proofs.DescentSteps.{Comes, expect_yields, Splits, glue, alone}
 
 -- ---- what an answer that is a stop satisfies
 
@@ -241,3 +241,39 @@ inner {limit = limit} {G = G} {K = K} {f = f} {e = e} place k h = record {
 pub into : {A : Type 0} {o : Answer A} {limit : Limit} {G K : Limit → Tokens → Type 0} {ts us : Tokens} {f : Tokens → Tokens} → Stops o (Halts limit G us) → Place ts f us
     → ((w : Limit) → Wider limit w → (p : Tokens) → G w p → K w (f p)) → Stops o (Halts limit K ts)
 into g place k = weaken (λ e h. inner place k h) g
+
+pub onto : {ts us vs : Tokens} {f : Tokens → Tokens} {t : Terminal} → Place ts f us → us ≡ t ∷ vs → Place ts (λ p. f (t ∷ p)) vs
+onto {f = f} {t = t} g e = record { same = g.same ∙ ap f e; through = λ p q. g.through (t ∷ p) q }
+
+pub same_place : {ts us : Tokens} → ts ≡ us → Place ts (λ p. p) us
+same_place e = record { same = e; through = λ p q. refl }
+
+-- what can be completed are the first of the tokens
+abbrev pub Known : (Limit → Tokens → Type 0) → Tokens → Limit → Tokens → Type 0
+Known K ts w p = K w p × ((rest : Tokens) × Splits ts p rest)
+
+why_known : (K : Limit → Tokens → Type 0) (ts before rest : Tokens) (r : Reason) → Splits ts before rest → Why K before rest r → Why (λ w p. Known K ts w p) before rest r
+why_known K ts before rest reason.Unexpected s y = tt
+why_known K ts before rest reason.TooNested s y = (y.0, y.1, y.2, (y.3, (y.1, glue s (alone y.2))))
+why_known K ts before rest reason.WrongEnd s y = y
+
+within_known : {limit : Limit} {K : Limit → Tokens → Type 0} (ts before rest : Tokens) → Splits ts before rest → K limit before ⊎ Full limit K before → Known K ts limit before ⊎ Full limit (λ w p. Known K ts w p) before
+within_known ts before rest s (inl g) = inl (g, (rest, s))
+within_known ts before rest s (inr g) = inr (record {
+  front = g.front;
+  comma = g.comma;
+  same = g.same;
+  is = g.is;
+  begun = (g.begun, (g.comma ∷ rest, record { same = s.same ∙ ap (λ z. z ++ rest) g.same ∙ append_assoc g.front (g.comma ∷ []) rest }));
+})
+
+pub known : {A : Type 0} {o : Answer A} {limit : Limit} {K : Limit → Tokens → Type 0} {ts : Tokens} → Stops o (Halts limit K ts) → Stops o (Halts limit (λ w p. Known K ts w p) ts)
+known {limit = limit} {K = K} {ts = ts} g = weaken (λ e h. record {
+  before = h.before;
+  rest = h.rest;
+  split = h.split;
+  left = h.left;
+  begun = (h.begun, (h.rest, h.split));
+  within = within_known ts h.before h.rest h.split h.within;
+  why = why_known K ts h.before h.rest e.reason h.split h.why;
+}) g
