@@ -13,3 +13,4 @@ pub mod Worked
 pub mod Halts
 pub mod HaltsWiden
 pub mod HaltsBegins
+pub mod HaltsDescent
