@@ -73,6 +73,10 @@ at_most_next : (limit : Limit) (n k : ℕ) → AtMost limit (suc (suc n) + k) �
 at_most_next (Some most) n k le = omega (arith, le)
 at_most_next None n k le = le
 
+at_most_zero : (limit : Limit) (n : ℕ) → AtMost limit (suc n) → AtMost limit (suc n + 0)
+at_most_zero (Some most) n le = omega (arith, le)
+at_most_zero None n le = le
+
 -- behind the comma that follows the last entry that a list may have
 comma_halts : {limit : Limit} (i : Item) (k : ℕ) {l j : Nesting} {x : ItemTree i} (ts vs rest us : Tokens) → Splits ts vs rest → (c : Comes kind.Comma rest us) → Derives limit (item i) l vs x j → IsBelow limit k → (r : Reason)
     → Why (λ w p. ListBegun w i k l p) (vs ++ c.0 ∷ []) us r → Halts limit (λ w p. ListBegun w i k l p) ts (record { left = length us; reason = r })
@@ -122,4 +126,101 @@ module _ {limit : Limit} (i : Item) (reads : Nesting → Tokens → Read (ItemTr
       (λ us e. let c = (after_yields kind.Comma p.2).holds us e in
       into (list_from_stops n (suc k) (at_most_next limit n k most) (found ++ p.0 ∷ []) (cleared p.1) us (next a c.1 (rest a f.1 small))) (past f.1 (behind c.1 first))
       (λ w wide q g. more_begun i c.0 k (wider wide f.2) c.2 g))
+      (λ e. goes))
+
+  -- from the first entry on, of as many as a list may have
+  from_first : (n : ℕ) → AtMost limit n → 1 ≤ n → (l : Nesting) (ts : Tokens) → length ts < a → Stops (list_from (starts_item i) reads n [] l ts) (Halts limit (λ w p. Completes w (list i) l p) ts)
+  from_first zero most le l ts small = absurd (omega (arith, le))
+  from_first (suc n) most le l ts small = into (list_from_stops n 0 (at_most_zero limit n most) [] l ts small) first (λ w wide p g. list_of g)
+
+-- a list of no tokens
+no_tokens : {A : Type 0} {limit : Limit} (i : Item) (starts : TerminalKind → Bool) (reads : Nesting → Tokens → Read A) (l : Nesting) → Stops (list_from starts reads 0 [] l []) (Halts limit (λ w p. Completes w (list i) l p) [])
+unfolding list_from
+no_tokens i starts reads l = stopped (unexpected nothing (λ w wide. some_list i))
+
+entries_stops : (limit : Limit) (i : Item) (reads : Nesting → Tokens → Read (ItemTree i)) → ((l : Nesting) (ts : Tokens) → Yields (reads l ts) (Front limit (item i) l ts)) → (a : ℕ)
+    → ((l : Nesting) (ts : Tokens) → length ts < a → Stops (reads l ts) (Halts limit (λ w p. Completes w (item i) l p) ts)) → IsBelow limit 0 → (l : Nesting) (ts : Tokens) → length ts < a
+    → Stops (list_from (starts_item i) reads (entries limit ts) [] l ts) (Halts limit (λ w p. Completes w (list i) l p) ts)
+entries_stops (Some most) i reads sound a stops lt l ts small = from_first i reads sound a stops most (omega arith) (omega (arith, lt)) l ts small
+entries_stops None i reads sound a stops lt l [] small = no_tokens i (starts_item i) reads l
+entries_stops None i reads sound a stops lt l (t ∷ ts) small = from_first i reads sound a stops (suc (length ts)) (any 0) (omega arith) l (t ∷ ts) small
+
+below_zero : (limit : Limit) (n : ℕ) → IsBelow limit n → IsBelow limit 0
+below_zero (Some most) n lt = omega (arith, lt)
+below_zero None n lt = lt
+
+module _ (go : Go) (sound : Sound go) (a : ℕ) (halting : Halting go a) where
+  -- ---- items
+
+  expression_stops : (l : Nesting) (ts : Tokens) → length ts < a → Stops (deeper go l ts) (Halts go.limit (λ w p. Completes w (item Item.Expression) l p) ts)
+  expression_stops l ts small = into (halting.expr (start.Chain connective.Iff) l ts small) first (λ w wide p g. expression_begun g)
+
+  parameter_of_stops : (l : Nesting) (t : Terminal) (ts : Tokens) (b : Bool) → begins_type t.kind ≡ b → length (t ∷ ts) < a → Stops (parameter_of go l (t ∷ ts) b) (Halts go.limit (λ w p. Completes w (item Item.Parameter) l p) (t ∷ ts))
+  parameter_of_stops l t ts true is small = then_ (into (known (halting.type l (t ∷ ts) small)) first (λ w wide p g. actual_typed w l t ts p g.1.0 is g.1.1 g.0)) (λ p. goes)
+  parameter_of_stops l t ts false is small = then_ (into (halting.expr (start.Chain connective.Iff) l (t ∷ ts) small) first (λ w wide p g. actual_begun g)) (λ p. goes)
+
+  parameter_stops : (l : Nesting) (ts : Tokens) → length ts < a → Stops (parameter_with go l ts) (Halts go.limit (λ w p. Completes w (item Item.Parameter) l p) ts)
+  parameter_stops l [] small = then_ (into (halting.expr (start.Chain connective.Iff) l [] small) first (λ w wide p g. actual_begun g)) (λ p. goes)
+  parameter_stops l (t ∷ ts) small = parameter_of_stops l t ts (begins_type t.kind) refl small
+
+  unnamed_stops : (l : Nesting) (ts : Tokens) → length ts < a → Stops (unnamed_with go l ts) (Halts go.limit (λ w p. Completes w (item Item.Component) l p) ts)
+  unnamed_stops l [] small = stopped (unexpected nothing (λ w wide. some_item Item.Component))
+  unnamed_stops l (t ∷ ts) small = then_ (into (halting.type l (t ∷ ts) small) first (λ w wide p g. component_begun g)) (λ q. goes)
+
+  component_stops : (l : Nesting) (ts : Tokens) → length ts < a → Stops (component_with go l ts) (Halts go.limit (λ w p. Completes w (item Item.Component) l p) ts)
+  component_stops l ts small = cases
+      (λ p e. let c = (labels_yields ts).holds p e in
+      then_ (into (halting.type l p.1 (rest a (put c.2 (alone refl)) small)) (behind c.2 (behind refl first)) (λ w wide q g. named_component_begun c.3 c.4 g)) (λ q. goes))
+      (λ e. unnamed_stops l ts small)
+
+  variable_stops : (l : Nesting) (ts : Tokens) → length ts < a → Stops (variable_with go l ts) (Halts go.limit (λ w p. Completes w (item Item.Variable) l p) ts)
+  variable_stops l ts small = id_then ts _ (unexpected nothing (λ w wide. some_item Item.Variable)) (λ t us e is. cases
+      (λ vs b. let c = (after_yields kind.Colon us).holds vs b in
+      then_ (into (halting.type l vs (next a c.1 (next a e small))) (behind e (behind c.1 first)) (λ w wide p g. typed_variable_begun is c.2 g)) (λ q. goes))
+      (λ b. goes))
+
+  definition_stops : (l : Nesting) (ts : Tokens) → length ts < a → Stops (definition_with go l ts) (Halts go.limit (λ w p. Completes w (item Item.Definition) l p) ts)
+  definition_stops l ts small = id_then ts _ (unexpected nothing (λ w wide. some_item Item.Definition)) (λ t us e is. cases
+      (λ vs b. let c = (after_yields kind.Colon us).holds vs b in
+      let less : length vs < a = next a c.1 (next a e small) in
+      bind (sound.type l vs) (into (halting.type l vs less) (behind e (behind c.1 first)) (λ w wide p g. typed_part_begun is c.2 g)) (λ p f.
+      expect_then kind.Equal p.2 _ (unexpected (put e (put c.1 f.1)) (λ w wide. typed_part_begun is c.2 (completed (wider wide f.2)))) (λ ws d.
+      then_ (into (halting.expr (start.Chain connective.Iff) p.1 ws (next a d.1 (rest a f.1 less))) (behind e (behind c.1 (past f.1 (behind d.1 first)))) (λ w wide q g. typed_value_begun d.0 is c.2 (wider wide f.2) d.2 g)) (λ q. goes))))
+      (λ b. expect_then kind.Equal us _ (unexpected (alone e) (λ w wide. part_begun is)) (λ ws d.
+      then_ (into (halting.expr (start.Chain connective.Iff) l ws (next a d.1 (next a e small))) (behind e (behind d.1 first)) (λ w wide q g. value_begun is d.2 g)) (λ q. goes))))
+
+  item_stops : (i : Item) (l : Nesting) (ts : Tokens) → length ts < a → Stops (item_with go i l ts) (Halts go.limit (λ w p. Completes w (item i) l p) ts)
+  item_stops Item.Expression l ts small = expression_stops l ts small
+  item_stops Item.Parameter l ts small = parameter_stops l ts small
+  item_stops Item.Component l ts small = component_stops l ts small
+  item_stops Item.Variable l ts small = variable_stops l ts small
+  item_stops Item.BareVariable l ts small = id_then ts _ (unexpected nothing (λ w wide. some_item Item.BareVariable)) (λ t us e is. goes)
+  item_stops Item.Definition l ts small = definition_stops l ts small
+
+  -- ---- lists
+
+  pub list_with_stops : (i : Item) → IsBelow go.limit 0 → (l : Nesting) (ts : Tokens) → length ts < a → Stops (list_with go i l ts) (Halts go.limit (λ w p. Completes w (list i) l p) ts)
+  list_with_stops i lt l ts small = entries_stops go.limit i (item_with go i) (λ l ts. item_sound go sound i l ts) a (λ l ts small. item_stops i l ts small) lt l ts small
+
+  -- a list in a frame, at a place behind the sign that opens it
+  pub framed_stops : (i : Item) (end : TerminalKind) (l : Nesting) {K : Limit → Tokens → Type 0} {ts us : Tokens} {f : Tokens → Tokens} → Place ts f us → Halts go.limit K ts (deep us)
+      → (HasRoom go.limit l → (w : Limit) → Wider go.limit w → (p : Tokens) → Completes w (list i) (inside l) p → K w (f p)) → length us < a → Stops (framed_with go i end l us) (Halts go.limit K ts)
+  framed_stops i end l {us = us} place too_deep k small = room_then go.limit l (inside l) us _ too_deep (λ lt.
+      bind (list_with_sound go sound i (inside l) us) (into (list_with_stops i (below_zero go.limit (level l) lt) (inside l) us small) place (k lt)) (λ p f.
+      expect_then end p.2 _ (unexpected (upto place f.1) (λ w wide. k lt w wide f.0 (completed (wider wide f.2)))) (λ vs b. goes)))
+
+  -- ---- names
+
+  -- behind an identifier
+  name_after_stops : (l : Nesting) (t : Terminal) (us : Tokens) → IsId t → length us < a → Stops (name_after go t.word l us) (Halts go.limit (λ w p. Completes w name l p) (t ∷ us))
+  name_after_stops l t us is small = cases
+      (λ vs b. let c = (after_yields kind.OpenBracket us).holds vs b in
+      bind (framed_sound go sound Item.Parameter kind.CloseBracket l vs)
+      (framed_stops Item.Parameter kind.CloseBracket l (behind refl (behind c.1 first)) (nested (moved (alone refl) c.1) (λ w wide. name_begun is) (actuals_begun is c.2 (any 0) (some_list Item.Parameter)))
+      (λ lt w wide p g. actuals_begun is c.2 (wide.below (level l) lt) g) (next a c.1 small)) (λ p f.
+      expect_then kind.Dot p.1 _ (unexpected (put refl (put c.1 f.3)) (λ w wide. instance_begun (Derives.inst_with l f.2 f.0 p.0 t c.0 f.1 is c.2 (wide.below (level l) f.4) (wider wide f.5) f.6))) (λ ws d.
+      qualified_stops l (t ∷ us) (t ∷ c.0 ∷ (f.0 ++ f.1 ∷ [])) ws t.word p.0 d.0 (moved (put refl (put c.1 f.3)) d.1)
+      (Derives.inst_with l f.2 f.0 p.0 t c.0 f.1 is c.2 f.4 f.5 f.6) d.2)))
+      (λ b. cases
+      (λ vs e. let d = (after_yields kind.Dot us).holds vs e in qualified_stops l (t ∷ us) (t ∷ []) vs t.word [] d.0 (moved (alone refl) d.1) (Derives.plain_inst l t is) d.2)
       (λ e. goes))
