@@ -23,7 +23,7 @@ use Rattle.pvs_syntax.specs.declared.expression.InfixWord.{InfixWord}
 use Rattle.pvs_syntax.specs.declared.expression.TypeExpr.{TypeExpr}
 use Rattle.pvs_parser.specs.Terminals.{Is, IsId, is_id}
 use Rattle.pvs_parser.specs.Language.{Limit, Tokens, IsBelow, HasRoom, level, Derives, Ending, Plain, Bound, Form, Item, form, item, list, name, inst, type_, ItemTree, inside, cleared, marked, held, tighter, sign, operator, instance, before_call, comparison, binder_word, begins_type}
-use Rattle.pvs_parser.specs.Descent.{Answer, Read, Go, ◌>>=◌, stop, too_many, starts_item, after, crowded, entries, deeper, list_from, list_with, framed_with, name_of, name_after, condition_with, cond_with, first_of, first_with, call_with, project, term_from, term_with, body_with, binder_with, let_with, not_with, prefix, prefixed_with, compared_from, operand_with, chain_on, chain_after, between_with, chain_with, otherwise_of, otherwise_with, tuple_type, fun_type_with, base_with, sub_type_with, type_of, type_with, parameter_of, parameter_with, unnamed_with, component_with, variable_with, definition_with, item_with, step, expr_with, reader}
+use Rattle.pvs_parser.specs.Descent.{Answer, Read, Go, ◌>>=◌, stop, too_many, starts_item, after, crowded, entries, deeper, list_from, list_with, framed_with, mark, name_of, name_after, condition_with, cond_with, first_of, first_with, call_with, project, term_from, term_with, body_with, binder_with, let_with, not_with, prefix, prefixed_with, compared_from, operand_with, chain_on, chain_after, between_with, chain_with, otherwise_of, otherwise_with, tuple_type, fun_type_with, base_with, sub_type_with, type_of, type_with, parameter_of, parameter_with, unnamed_with, component_with, variable_with, definition_with, item_with, step, expr_with, reader}
 use Rattle.pvs_parser.proofs.Yields.{Yields}
 use Rattle.pvs_parser.proofs.Follows.{pull_of, reach}
 use Rattle.pvs_parser.proofs.Gets.{unglue}
@@ -51,6 +51,9 @@ rest a s small = omega (arith, splits_shorter s, small)
 
 rest_le : {us vs ws : Tokens} (a : ℕ) → Splits us vs ws → length us ≤ a → length ws ≤ a
 rest_le a s small = omega (arith, splits_shorter s, small)
+
+fewer_le : (ts : Tokens) (a : ℕ) → length ts < a → length ts ≤ a
+fewer_le ts a small = omega (arith, small)
 
 -- ---- parts that are read with nothing deeper
 
@@ -149,6 +152,29 @@ below_zero : (limit : Limit) (n : ℕ) → IsBelow limit n → IsBelow limit 0
 below_zero (Some most) n lt = omega (arith, lt)
 below_zero None n lt = lt
 
+-- ---- what a prefix begins
+
+-- tokens that can be completed to what NOT, a binder or a LET begins, where there are any
+abbrev PrefixBegun : Limit → Nesting → Tokens → Type 0
+PrefixBegun w l p = (p ≡ []) ⊎ Begun w (λ e. Form.Prefixed e) l p
+
+prefix_operand : {w : Limit} {l : Nesting} (p : Tokens) → PrefixBegun w l p → Begun w (λ e. Form.Operand e) l p
+prefix_operand {w = w} {l = l} p (inl e) = subst (λ z. Begun w (λ e. Form.Operand e) l z) (sym e) some_operand
+prefix_operand p (inr g) = prefixed_begun g
+
+compared_prefix : {w : Limit} {l k : Nesting} {vs : Tokens} {x : Expr} {o : InfixWord} (t : Terminal) → Derives w (form Form.Comparisons) l vs x k → comparison t.kind ≡ Some o → HasRoom w k → (p : Tokens) → PrefixBegun w (marked k) p
+    → Begun w (λ e. Form.Operand e) l (vs ++ t ∷ p)
+compared_prefix {w = w} {l = l} {vs = vs} t d is lt p (inl e) = subst (λ z. Begun w (λ e. Form.Operand e) l (vs ++ t ∷ z)) (sym e) (compares_begun t d is lt some_term)
+compared_prefix t d is lt p (inr g) = compared_prefixed_begun t d is lt g
+
+-- ---- what stands in braces
+
+within_brace : {ts us : Tokens} (t u : Terminal) (vs : Tokens) (w : Terminal) → Splits ts (t ∷ u ∷ (vs ++ w ∷ [])) us → Place ts (λ p. t ∷ u ∷ (vs ++ w ∷ p)) us
+within_brace {us = us} t u vs w s = record {
+  same = s.same ∙ ap (λ z. t ∷ u ∷ z) (append_assoc vs (w ∷ []) us);
+  through = λ p q. ap (λ z. t ∷ u ∷ z) (sym (append_assoc vs (w ∷ p) q));
+}
+
 module _ (go : Go) (sound : Sound go) (a : ℕ) (halting : Halting go a) where
   -- ---- items
 
@@ -224,3 +250,247 @@ module _ (go : Go) (sound : Sound go) (a : ℕ) (halting : Halting go a) where
       (λ b. cases
       (λ vs e. let d = (after_yields kind.Dot us).holds vs e in qualified_stops l (t ∷ us) (t ∷ []) vs t.word [] d.0 (moved (alone refl) d.1) (Derives.plain_inst l t is) d.2)
       (λ e. goes))
+
+  -- ---- terms
+
+  cond_stops : (w : Word) (l : Nesting) (ts : Tokens) → length ts < a → Stops (cond_with go w l ts) (Halts go.limit (λ v p. CondBegun v l p) ts)
+  cond_stops w l ts small =
+      bind (condition_sound go sound l ts)
+      (bind (expression_sound go sound l ts) (into (expression_stops l ts small) first (λ v wide p g. test_begun g)) (λ p f.
+      expect_then kind.Then p.2 _ (unexpected f.1 (λ v wide. test_begun (completed (wider wide f.2)))) (λ us b. goes)))
+      (λ p f. let split : Splits ts f.0 (f.1 ∷ p.2) = unglue f.0 (f.1 ∷ []) f.3 in
+      let less : length p.2 < a = rest a f.3 small in
+      bind (expression_sound go sound p.1 p.2)
+      (into (expression_stops p.1 p.2 less) (past split (behind refl first)) (λ v wide q g. then_begun f.1 (wider wide f.4) f.5 (subst (λ z. Completes v (item Item.Expression) z q) f.6 g)))
+      (λ q g. then_
+      (into (halting.expr start.Otherwise q.1 q.2 (rest a g.1 less)) (past split (behind refl (past g.1 first)))
+      (λ v wide r k. rest_begun f.1 (wider wide f.4) f.5 (wider wide (subst (λ z. Derives go.limit (item Item.Expression) z g.0 q.0 q.1) f.6 g.2)) k)) (λ r. goes)))
+
+  first_of_stops : (l : Nesting) (t : Terminal) (ts : Tokens) (k : TerminalKind) → t.kind ≡ k → length ts < a → Stops (first_of go l t ts k) (Halts go.limit (λ w p. TermBegun w l p) (t ∷ ts))
+  first_of_stops l t ts kind.True is small = goes
+  first_of_stops l t ts kind.False is small = goes
+  first_of_stops l t ts kind.Id is small = then_ (into (name_after_stops l t ts (ap is_id is) small) first (λ w wide p g. name_term_begun g)) (λ p. goes)
+  first_of_stops l t ts kind.Proof is small = then_ (into (name_after_stops l t ts (ap is_id is) small) first (λ w wide p g. name_term_begun g)) (λ p. goes)
+  first_of_stops l t ts kind.Open is small =
+      then_ (framed_stops Item.Expression kind.Close l (behind refl first) (nested nothing (λ w wide. some_term) (group_begun is (any 0) (some_list Item.Expression))) (λ lt w wide p g. group_begun is (wide.below (level l) lt) g) small) (λ p. goes)
+  first_of_stops l t ts kind.If is small =
+      room_then go.limit l (inside l) ts _ (nested nothing (λ w wide. some_term) (if_begun is (any 0) (test_begun some_expr))) (λ lt.
+      then_ (into (cond_stops t.word (inside l) ts small) (behind refl first) (λ w wide p g. if_begun is (wide.below (level l) lt) g)) (λ p. goes))
+  first_of_stops l t ts _ is small = stopped (unexpected nothing (λ w wide. some_term))
+
+  first_stops : (l : Nesting) (ts : Tokens) → length ts ≤ a → Stops (first_with go l ts) (Halts go.limit (λ w p. TermBegun w l p) ts)
+  first_stops l [] small = stopped (unexpected nothing (λ w wide. some_term))
+  first_stops l (t ∷ ts) small = first_of_stops l t ts t.kind refl (omega (arith, small))
+
+  -- behind a term
+  call_stops : (b : Bool) (x : Expr) (l0 l : Nesting) (all vs ts us : Tokens) → Splits all vs ts → Derives go.limit (form (Form.Term b)) l0 vs x l → Comes kind.Open ts us → length us < a
+      → Stops (call_with go b x l us) (Halts go.limit (λ w p. TermBegun w l0 p) all)
+  call_stops b x l0 l all vs ts us s d c small =
+      let too_deep : Halts go.limit (λ w p. TermBegun w l0 p) all (deep us) = nested (moved s c.1) (λ w wide. (b, completed (wider wide d))) (call_begun c.0 (wider no_limit d) c.2 (any 0) (some_list Item.Expression)) in
+      call_mark_then go.limit b l us _ _ too_deep (then_
+      (framed_stops Item.Expression kind.Close (before_call b l) (past s (behind c.1 first)) too_deep (λ lt w wide p g. call_begun c.0 (wider wide d) c.2 (wide.below (level (before_call b l)) lt) g) small) (λ p. goes))
+
+  project_stops : (b : Bool) (x : Expr) (l0 l : Nesting) (all vs ts us : Tokens) → Splits all vs ts → Derives go.limit (form (Form.Term b)) l0 vs x l → Comes kind.Backquote ts us
+      → Stops (project go.limit x l us) (Halts go.limit (λ w p. TermBegun w l0 p) all)
+  project_stops b x l0 l all vs ts us s d c =
+      room_then go.limit l (marked l) us _ (nested (moved s c.1) (λ w wide. (b, completed (wider wide d))) (project_begun c.0 (wider no_limit d) c.2 (any 0))) (λ lt.
+      then_ (number_stops us (unexpected (glue s (alone c.1)) (λ w wide. project_begun c.0 (wider wide d) c.2 (wide.below (level l) lt)))) (λ p. goes))
+
+  term_from_stops : (n : ℕ) (b : Bool) (x : Expr) (l0 l : Nesting) (all vs ts : Tokens) → Splits all vs ts → Derives go.limit (form (Form.Term b)) l0 vs x l → length ts ≤ a
+      → Stops (term_from go n b x l ts) (Halts go.limit (λ w p. TermBegun w l0 p) all)
+  unfolding term_from
+  term_from_stops zero b x l0 l all vs ts s d small = goes
+  term_from_stops (suc n) b x l0 l all vs ts s d small = cases
+      (λ us e. let c = (after_yields kind.Open ts).holds us e in
+      let less : length us < a = next_le a c.1 small in
+      bind (call_sound go sound b x l0 l all vs ts us s d c) (call_stops b x l0 l all vs ts us s d c less) (λ p f.
+      term_from_stops n true p.0 l0 p.1 all f.0 p.2 f.1 f.2 (fewer_le p.2 a (rest a f.3.1 less))))
+      (λ e. cases
+      (λ us e. let c = (after_yields kind.Backquote ts).holds us e in
+      bind (project_sound b x l0 l all vs ts us s d c) (project_stops b x l0 l all vs ts us s d c) (λ p f.
+      term_from_stops n true p.0 l0 p.1 all f.0 p.2 f.1 f.2 (fewer_le p.2 a (rest a f.3.1 (next_le a c.1 small)))))
+      (λ e. goes))
+
+  term_stops : (l : Nesting) (ts : Tokens) → length ts ≤ a → Stops (term_with go l ts) (Halts go.limit (λ w p. TermBegun w l p) ts)
+  term_stops l ts small = bind (first_sound go sound l ts) (first_stops l ts small) (λ p f. term_from_stops (length ts) p.1 p.0 l l ts f.0 p.2 f.1 f.2 (rest_le a f.1 small))
+
+  -- ---- NOT, binders and LET
+
+  -- a colon and a body, at a place behind the bindings
+  body_stops : (bs : List Binding) (b : BinderWord) (w : Word) (l : Nesting) {K : Limit → Tokens → Type 0} {ts us : Tokens} {f : Tokens → Tokens} → Place ts f us → ((v : Limit) → Wider go.limit v → K v (f []))
+      → ((v : Limit) → Wider go.limit v → (c : Terminal) → Is kind.Colon c → (p : Tokens) → Begun v (λ e. Form.Chain connective.Iff e) l p → K v (f (c ∷ p))) → length us < a → Stops (body_with go bs b w l us) (Halts go.limit K ts)
+  body_stops bs b w l {us = us} place before body small = expect_then kind.Colon us _ (unexpected (upto place nothing) before) (λ vs c.
+      then_ (into (halting.expr (start.Chain connective.Iff) l vs (next a c.1 small)) (onto place c.1) (λ v wide p g. body v wide c.0 c.2 p g)) (λ p. goes))
+
+  binder_stops : (b : BinderWord) (l : Nesting) (t : Terminal) (us : Tokens) → binder_word t.kind ≡ Some b → length us < a → Stops (binder_with go b t.word l us) (Halts go.limit (λ w p. PrefixBegun w l p) (t ∷ us))
+  binder_stops b l t us is small =
+      room_then go.limit l (held l) us _ (nested nothing (λ w wide. inl refl) (inr (bare_begun is (any 0) (some_list Item.BareVariable)))) (λ lt. cases
+      (λ vs e. let c = (after_yields kind.Open us).holds vs e in
+      let less : length vs < a = next a c.1 small in
+      bind (framed_sound go sound Item.Variable kind.Close (held l) vs)
+      (framed_stops Item.Variable kind.Close (held l) (behind refl (behind c.1 first))
+      (nested (moved (alone refl) c.1) (λ w wide. inr (bare_begun is (wide.below (level l) lt) (some_list Item.BareVariable))) (inr (bindings_begun is (any 0) c.2 (any 0) (some_list Item.Variable))))
+      (λ has w wide p g. inr (bindings_begun is (wide.below (level l) lt) c.2 (wide.below (level (held l)) has) g)) less) (λ p f.
+      body_stops p.0 b t.word (held l) (behind refl (behind c.1 (past (unglue f.0 (f.1 ∷ []) f.3) (behind refl first))))
+      (λ w wide. inr (bound_begun f.1 is (wide.below (level l) lt) c.2 (wide.below (level (held l)) f.4) (wider wide f.5) f.6))
+      (λ w wide k colon q g. inr (binder_begun f.1 k is (wide.below (level l) lt) c.2 (wide.below (level (held l)) f.4) (wider wide f.5) f.6 colon g)) (rest a f.3 less)))
+      (λ e. bind (list_with_sound go sound Item.BareVariable (held l) us)
+      (into (list_with_stops Item.BareVariable (below_zero go.limit (level l) lt) (held l) us small) (behind refl first) (λ w wide p g. inr (bare_begun is (wide.below (level l) lt) g))) (λ p f.
+      body_stops p.0 b t.word p.1 (behind refl (past f.1 first))
+      (λ w wide. inr (bare_begun is (wide.below (level l) lt) (subst (λ z. Completes w (list Item.BareVariable) (held l) z) (sym (append-nil f.0)) (completed (wider wide f.2)))))
+      (λ w wide k colon q g. inr (bare_binder_begun k is (wide.below (level l) lt) (wider wide f.2) colon g)) (rest a f.1 small))))
+
+  let_stops : (l : Nesting) (t : Terminal) (us : Tokens) → Is kind.Let t → length us < a → Stops (let_with go t.word l us) (Halts go.limit (λ w p. PrefixBegun w l p) (t ∷ us))
+  let_stops l t us is small =
+      room_then go.limit l (held l) us _ (nested nothing (λ w wide. inl refl) (inr (let_begun is (any 0) (some_list Item.Definition)))) (λ lt.
+      bind (list_with_sound go sound Item.Definition (held l) us)
+      (into (list_with_stops Item.Definition (below_zero go.limit (level l) lt) (held l) us small) (behind refl first) (λ w wide p g. inr (let_begun is (wide.below (level l) lt) g))) (λ p f.
+      expect_then kind.In p.2 _ (unexpected (put refl f.1) (λ w wide. inr (let_begun is (wide.below (level l) lt) (completed (wider wide f.2))))) (λ vs c.
+      then_ (into (halting.expr (start.Chain connective.Iff) p.1 vs (next a c.1 (rest a f.1 small))) (behind refl (past f.1 (behind c.1 first))) (λ w wide q g. inr (in_begun c.0 is (wide.below (level l) lt) (wider wide f.2) c.2 g))) (λ q. goes))))
+
+  not_stops : (l : Nesting) (t : Terminal) (us : Tokens) → Is kind.Not t → length us < a → Stops (not_with go t.word l us) (Halts go.limit (λ w p. PrefixBegun w l p) (t ∷ us))
+  not_stops l t us is small =
+      room_then go.limit l (marked l) us _ (nested nothing (λ w wide. inl refl) (inr (not_begun is (any 0) some_operand))) (λ lt.
+      then_ (into (halting.expr start.Operand (marked l) us small) (behind refl first) (λ w wide p g. inr (not_begun is (wide.below (level l) lt) g))) (λ p. goes))
+
+  prefixed_of_stops : (l : Nesting) (t : Terminal) (us : Tokens) (p : Prefix) → IsPrefix t p → length us < a → Stops (prefixed_with go l p t.word us) (Halts go.limit (λ w p. PrefixBegun w l p) (t ∷ us))
+  prefixed_of_stops l t us prefixes.Negation is small = not_stops l t us is small
+  prefixed_of_stops l t us (prefixes.Binder b) is small = binder_stops b l t us is small
+  prefixed_of_stops l t us prefixes.Local is small = let_stops l t us is small
+
+  prefixed_stops : (l : Nesting) (t : Terminal) (us : Tokens) (p : Prefix) → prefix t.kind ≡ Some p → length us < a → Stops (prefixed_with go l p t.word us) (Halts go.limit (λ w p. PrefixBegun w l p) (t ∷ us))
+  prefixed_stops l t us p is small = prefixed_of_stops l t us p (is_prefix_kind t t.kind refl p is) small
+
+  -- ---- operands and chains
+
+  compared_from_stops : (n : ℕ) (x : Expr) (l0 l : Nesting) (all vs ts : Tokens) → Splits all vs ts → Derives go.limit (form Form.Comparisons) l0 vs x l → length ts ≤ a
+      → Stops (compared_from go n x l ts) (Halts go.limit (λ w p. Begun w (λ e. Form.Operand e) l0 p) all)
+  unfolding compared_from
+  compared_from_stops zero x l0 l all vs ts s d small = goes
+  compared_from_stops (suc n) x l0 l all vs ts s d small = cases
+      (λ p e. let c = (compares_yields ts).holds p e in
+      let less : length p.1 < a = next_le a c.1 small in
+      room_then go.limit l (marked l) p.1 _ (nested (moved s c.1) (λ w wide. compared_begun (completed (wider wide d))) (compares_begun c.0 (wider no_limit d) c.2 (any 0) some_term)) (λ lt. begins_then p.1 _ _
+      (λ t us q e is. then_ (into (prefixed_stops (marked l) t us q is (next a e less)) (past s (behind c.1 (same_place e))) (λ w wide q g. compared_prefix c.0 (wider wide d) c.2 (wide.below (level l) lt) q g)) (λ r. goes))
+      (bind (term_sound go sound (marked l) p.1) (into (term_stops (marked l) p.1 (fewer_le p.1 a less)) (past s (behind c.1 first)) (λ w wide q g. compares_begun c.0 (wider wide d) c.2 (wide.below (level l) lt) g)) (λ r f.
+      compared_from_stops n (expr.Infix p.0 x r.0) l0 r.1 all (vs ++ c.0 ∷ f.1) r.2 (glue s (put c.1 f.2)) (Derives.compares f.0 l0 l r.1 vs f.1 x r.0 p.0 c.0 d c.2 lt f.3) (fewer_le r.2 a (rest a f.2 less))))))
+      (λ e. goes)
+
+  operand_stops : (l : Nesting) (ts : Tokens) → length ts ≤ a → Stops (operand_with go l ts) (Halts go.limit (λ w p. Begun w (λ e. Form.Operand e) l p) ts)
+  operand_stops l ts small = begins_then ts _ _
+      (λ t us q e is. into (prefixed_stops l t us q is (next_le a e small)) (same_place e) (λ w wide p g. prefix_operand p g))
+      (bind (term_sound go sound l ts) (into (term_stops l ts small) first (λ w wide p g. term_begun g)) (λ p f.
+      compared_from_stops (length ts) p.0 l p.1 ts f.1 p.2 f.2 (Derives.term f.0 l p.1 f.1 p.0 f.3) (rest_le a f.2 small)))
+
+  chain_sign_stops : (c : Connective) (l : Nesting) (ts : Tokens) (p : Expr × Nesting × Tokens) (e : Ending) (vs : Tokens) → Splits ts vs p.2 → Derives go.limit (form (tighter c e)) l vs p.0 p.1 → pull_of p.2 < reach (tighter c e)
+      → (us : Tokens) → Comes (sign c) p.2 us → length p.2 ≤ a
+      → Stops {A = Expr × Nesting × Tokens} (mark go.limit p.1 us >>= λ m. go.expr (start.Chain c) m us >>= λ q. Ok (expr.Infix (operator c) p.0 q.0, q.1, q.2)) (Halts go.limit (λ w q. Begun w (λ e. Form.Chain c e) l q) ts)
+  chain_sign_stops c l ts p Plain vs s d lt us b small =
+      room_then go.limit p.1 (marked p.1) us _ (nested (moved s b.1) (λ w wide. alone_begun c (Plain, completed (wider wide d))) (joined_begun c b.0 (wider no_limit d) b.2 (any 0) (some_chain c))) (λ has.
+      then_ (into (halting.expr (start.Chain c) (marked p.1) us (next_le a b.1 small)) (past s (behind b.1 first)) (λ w wide q g. joined_begun c b.0 (wider wide d) b.2 (wide.below (level p.1) has) g)) (λ q. goes))
+  chain_sign_stops c l ts p Bound vs s d lt us b small = absurd (bound_stops c p.2 us b.0 lt b.1 b.2)
+
+  chain_on_stops : (c : Connective) (l : Nesting) (ts : Tokens) (r : Read Expr) → Yields r (Formed go.limit (λ e. tighter c e) l ts) → Stops r (Halts go.limit (λ w p. Begun w (λ e. tighter c e) l p) ts) → length ts ≤ a
+      → Stops (chain_on go c r) (Halts go.limit (λ w p. Begun w (λ e. Form.Chain c e) l p) ts)
+  chain_on_stops c l ts r y g small = bind y (into g first (λ w wide p g. alone_begun c g)) (λ p f. cases
+      (λ us e. chain_sign_stops c l ts p f.0 f.1 f.2 f.3 f.4 us ((after_yields (sign c) p.2).holds us e) (rest_le a f.2 small))
+      (λ e. goes))
+
+  and_stops : (l : Nesting) (ts : Tokens) → length ts ≤ a → Stops (chain_on go connective.And (operand_with go l ts)) (Halts go.limit (λ w p. Begun w (λ e. Form.Chain connective.And e) l p) ts)
+  and_stops l ts small = chain_on_stops connective.And l ts (operand_with go l ts) (operand_sound go sound l ts) (operand_stops l ts small) small
+
+  or_stops : (l : Nesting) (ts : Tokens) → length ts ≤ a → Stops (chain_on go connective.Or (chain_on go connective.And (operand_with go l ts))) (Halts go.limit (λ w p. Begun w (λ e. Form.Chain connective.Or e) l p) ts)
+  or_stops l ts small = chain_on_stops connective.Or l ts (between_with go connective.Or l ts) (between_sound go sound connective.Or l ts) (and_stops l ts small) small
+
+  between_stops : (c : Connective) (l : Nesting) (ts : Tokens) → length ts ≤ a → Stops (between_with go c l ts) (Halts go.limit (λ w p. Begun w (λ e. tighter c e) l p) ts)
+  between_stops connective.And l ts small = operand_stops l ts small
+  between_stops connective.Or l ts small = and_stops l ts small
+  between_stops connective.Implies l ts small = or_stops l ts small
+  between_stops connective.Iff l ts small = chain_on_stops connective.Implies l ts (between_with go connective.Implies l ts) (between_sound go sound connective.Implies l ts) (or_stops l ts small) small
+
+  chain_stops : (c : Connective) (l : Nesting) (ts : Tokens) → length ts ≤ a → Stops (chain_with go c l ts) (Halts go.limit (λ w p. Begun w (λ e. Form.Chain c e) l p) ts)
+  chain_stops c l ts small = chain_on_stops c l ts (between_with go c l ts) (between_sound go sound c l ts) (between_stops c l ts small) small
+
+  -- ---- the end of an IF
+
+  otherwise_of_stops : (l : Nesting) (t : Terminal) (ts : Tokens) (k : TerminalKind) → t.kind ≡ k → length ts < a → Stops (otherwise_of go l t ts k) (Halts go.limit (λ w p. Completes w (form Form.Otherwise) l p) (t ∷ ts))
+  otherwise_of_stops l t ts kind.Else is small =
+      bind (expression_sound go sound (cleared l) ts) (into (expression_stops (cleared l) ts small) (behind refl first) (λ w wide p g. else_begun is g)) (λ p f.
+      expect_then kind.EndIf p.2 _ (unexpected (put refl f.1) (λ w wide. else_begun is (completed (wider wide f.2)))) (λ us b. goes))
+  otherwise_of_stops l t ts kind.Elsif is small =
+      room_then go.limit (cleared l) (held (cleared l)) ts _ (nested nothing (λ w wide. some_otherwise) (elsif_begun is (any 0) (test_begun some_expr))) (λ lt.
+      into (cond_stops t.word (held (cleared l)) ts small) (behind refl first) (λ w wide p g. elsif_begun is (wide.below (level (cleared l)) lt) g))
+  otherwise_of_stops l t ts _ is small = stopped (unexpected nothing (λ w wide. some_otherwise))
+
+  otherwise_stops : (l : Nesting) (ts : Tokens) → length ts ≤ a → Stops (otherwise_with go l ts) (Halts go.limit (λ w p. Completes w (form Form.Otherwise) l p) ts)
+  otherwise_stops l [] small = stopped (unexpected nothing (λ w wide. some_otherwise))
+  otherwise_stops l (t ∷ ts) small = otherwise_of_stops l t ts t.kind refl (omega (arith, small))
+
+  -- ---- types
+
+  -- behind the components of a domain and the arrow
+  fun_stops : (l k : Nesting) (t u : Terminal) (ts vs : Tokens) (bs : List Binding) (end us : Tokens) → Splits ts vs end → Is kind.OpenBracket t → HasRoom go.limit l → Derives go.limit (list Item.Component) (inside l) vs bs k
+      → end ≡ u ∷ us → Is kind.Arrow u → length us < a → Stops (fun_type_with go l t.word bs k us) (Halts go.limit (λ w p. Completes w type_ l p) (t ∷ ts))
+  fun_stops l k t u ts vs bs end us s is lt d e arrow small =
+      bind (sound.type k us) (into (halting.type k us small) (behind refl (past s (behind e first))) (λ w wide p g. range_begun u is (wide.below (level l) lt) (wider wide d) arrow g)) (λ p f.
+      expect_then kind.CloseBracket p.2 _ (unexpected (put refl (glue s (put e f.1))) (λ w wide. range_begun u is (wide.below (level l) lt) (wider wide d) arrow (completed (wider wide f.2)))) (λ ws b. goes))
+
+  tuple_stops : (l k : Nesting) (t : Terminal) (ts vs : Tokens) (bs : List Binding) (end : Tokens) → Splits ts vs end → Is kind.OpenBracket t → HasRoom go.limit l → Derives go.limit (list Item.Component) (inside l) vs bs k
+      → Stops (tuple_type l t.word bs end) (Halts go.limit (λ w p. Completes w type_ l p) (t ∷ ts))
+  tuple_stops l k t ts vs [] end s is lt d = stopped (unexpected (put refl s) (λ w wide. domain_begun is (wide.below (level l) lt) (completed (wider wide d))))
+  tuple_stops l k t ts vs (b ∷ []) end s is lt d = stopped (unexpected (put refl s) (λ w wide. domain_begun is (wide.below (level l) lt) (completed (wider wide d))))
+  tuple_stops l k t ts vs (b ∷ c ∷ bs) end s is lt d = expect_then kind.CloseBracket end _ (unexpected (put refl s) (λ w wide. domain_begun is (wide.below (level l) lt) (completed (wider wide d)))) (λ us b. goes)
+
+  base_stops : (l : Nesting) (t : Terminal) (ts : Tokens) → Is kind.OpenBrace t → HasRoom go.limit l → length ts < a → Stops (base_with go (inside l) ts) (Halts go.limit (λ w p. Completes w type_ l p) (t ∷ ts))
+  base_stops l t ts is lt small = id_then ts _ (unexpected (alone refl) (λ w wide. brace_begun is (wide.below (level l) lt))) (λ u us e id.
+      expect_then kind.Colon us _ (unexpected (put refl (alone e)) (λ w wide. brace_id_begun is (wide.below (level l) lt) id)) (λ vs c.
+      let less : length vs < a = next a c.1 (next a e small) in
+      bind (sound.type (inside l) vs) (into (halting.type (inside l) vs less) (behind refl (behind e (behind c.1 first))) (λ w wide p g. base_begun is (wide.below (level l) lt) id c.2 g)) (λ p f.
+      expect_then kind.Bar p.2 _ (unexpected (put refl (put e (put c.1 f.1))) (λ w wide. base_begun is (wide.below (level l) lt) id c.2 (completed (wider wide f.2)))) (λ ws b. goes))))
+
+  sub_stops : (l : Nesting) (t : Terminal) (ts : Tokens) → Is kind.OpenBrace t → length ts < a → Stops (sub_type_with go l t.word ts) (Halts go.limit (λ w p. Completes w type_ l p) (t ∷ ts))
+  sub_stops l t ts is small =
+      room_then go.limit l (inside l) ts _ (nested nothing (λ w wide. some_type) (brace_begun is (any 0))) (λ lt.
+      bind (base_sound go sound (inside l) ts) (base_stops l t ts is lt small) (λ p f.
+      let place : Place (t ∷ ts) (λ q. t ∷ f.t ∷ f.u ∷ (f.vs ++ f.w ∷ q)) p.3 = behind refl (within_brace f.t f.u f.vs f.w f.split) in
+      bind (expression_sound go sound p.2 p.3) (into (expression_stops p.2 p.3 (rest a f.split small)) place (λ w wide q g. sub_begun f.w is (wide.below (level l) lt) f.id f.colon (wider wide f.type) f.bar g)) (λ q g.
+      expect_then kind.CloseBrace q.2 _ (unexpected (upto place g.1) (λ w wide. sub_begun f.w is (wide.below (level l) lt) f.id f.colon (wider wide f.type) f.bar (completed (wider wide g.2)))) (λ vs b. goes))))
+
+  type_of_stops : (l : Nesting) (t : Terminal) (ts : Tokens) (k : TerminalKind) → t.kind ≡ k → length ts < a → Stops (type_of go l t ts k) (Halts go.limit (λ w p. Completes w type_ l p) (t ∷ ts))
+  type_of_stops l t ts kind.Id is small = then_ (into (name_after_stops l t ts (ap is_id is) small) first (λ w wide p g. name_type_begun g)) (λ p. goes)
+  type_of_stops l t ts kind.Proof is small = then_ (into (name_after_stops l t ts (ap is_id is) small) first (λ w wide p g. name_type_begun g)) (λ p. goes)
+  type_of_stops l t ts kind.Open is small =
+      room_then go.limit l (inside l) ts _ (nested nothing (λ w wide. some_type) (pred_begun is (any 0) some_expr)) (λ lt.
+      bind (expression_sound go sound (inside l) ts) (into (expression_stops (inside l) ts small) (behind refl first) (λ w wide p g. pred_begun is (wide.below (level l) lt) g)) (λ p f.
+      expect_then kind.Close p.2 _ (unexpected (put refl f.1) (λ w wide. pred_begun is (wide.below (level l) lt) (completed (wider wide f.2)))) (λ us b. goes)))
+  type_of_stops l t ts kind.OpenBrace is small = sub_stops l t ts is small
+  type_of_stops l t ts kind.OpenBracket is small =
+      room_then go.limit l (inside l) ts _ (nested nothing (λ w wide. some_type) (domain_begun is (any 0) (some_list Item.Component))) (λ lt.
+      bind (list_with_sound go sound Item.Component (inside l) ts)
+      (into (list_with_stops Item.Component (below_zero go.limit (level l) lt) (inside l) ts small) (behind refl first) (λ w wide p g. domain_begun is (wide.below (level l) lt) g)) (λ p f. cases
+      (λ us e. let c = (after_yields kind.Arrow p.2).holds us e in fun_stops l p.1 t c.0 ts f.0 p.0 p.2 us f.1 is lt f.2 c.1 c.2 (next a c.1 (rest a f.1 small)))
+      (λ e. tuple_stops l p.1 t ts f.0 p.0 p.2 f.1 is lt f.2)))
+  type_of_stops l t ts _ is small = stopped (unexpected nothing (λ w wide. some_type))
+
+  type_stops : (l : Nesting) (ts : Tokens) → length ts ≤ a → Stops (type_with go l ts) (Halts go.limit (λ w p. Completes w type_ l p) ts)
+  type_stops l [] small = stopped (unexpected nothing (λ w wide. some_type))
+  type_stops l (t ∷ ts) small = type_of_stops l t ts t.kind refl (omega (arith, small))
+
+  -- ---- the whole
+
+  step_expr_stops : (s : Start) (l : Nesting) (ts : Tokens) → length ts ≤ a → Stops (expr_with go s l ts) (Halts go.limit (λ w p. StartBegun w s l p) ts)
+  step_expr_stops (start.Chain c) l ts small = chain_stops c l ts small
+  step_expr_stops start.Operand l ts small = operand_stops l ts small
+  step_expr_stops start.Otherwise l ts small = otherwise_stops l ts small
+
+  step_halting : Halting (step go) (suc a)
+  step_halting = record { expr = λ s l ts small. step_expr_stops s l ts (omega (arith, small)); type = λ l ts small. type_stops l ts (omega (arith, small)) }
+
+too_small : (ts : Tokens) → length ts < 0 → ⊥
+too_small ts lt = omega (arith, lt)
+
+-- where the reading of fewer tokens than so many stops
+pub reader_halting : (limit : Limit) (a : ℕ) → Halting (reader limit a) a
+unfolding reader
+reader_halting limit zero = record { expr = λ s l ts small. absurd (too_small ts small); type = λ l ts small. absurd (too_small ts small) }
+reader_halting limit (suc a) = step_halting (reader limit a) (sound_reader limit a) a (reader_halting limit a)
