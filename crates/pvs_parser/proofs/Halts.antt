@@ -14,7 +14,7 @@ use Rattle.pvs_parser.specs.Terminals.{Is, IsId, is_id, same_kind}
 use Rattle.pvs_parser.specs.Language.{Limit, Tokens, IsBelow, HasRoom, level, marked, before_call}
 use Rattle.pvs_parser.specs.Descent.{Answer, ◌>>=◌, either, stop, expect, id, number, is_below, with_room, too_deep, call_mark, prefix, begins, begins_of}
 use Rattle.pvs_parser.proofs.Yields.{Yields}
-use Rattle.pvs_parser.proofs.DescentSteps.{Comes, expect_yields, Splits, glue, alone}
+use Rattle.pvs_parser.proofs.DescentSteps.{Comes, expect_yields, is_below_is, Splits, glue, alone}
 
 -- ---- what an answer that is a stop satisfies
 
@@ -112,6 +112,15 @@ room_one limit n m ts f Q q g false is = stopped q
 -- behind a test that one more frame or mark may stand
 pub room_then : {B : Type 0} (limit : Limit) (n m : Nesting) (ts : Tokens) (f : Nesting → Answer B) {Q : Stop → Type 0} → Q (deep ts) → (HasRoom limit n → Stops (f m) Q) → Stops (with_room limit n m ts >>= f) Q
 room_then limit n m ts f {Q = Q} q g = room_one limit n m ts f Q q g (is_below limit (level n)) refl
+
+room_or : {B : Type 0} (limit : Limit) (n m : Nesting) (ts : Tokens) (f : Nesting → Answer B) (Q : Stop → Type 0) → ((HasRoom limit n → ⊥) → Q (deep ts)) → (HasRoom limit n → Stops (f m) Q) → (b : Bool) → is_below limit (level n) ≡ b
+    → Stops ((if b then Ok m else too_deep ts) >>= f) Q
+room_or limit n m ts f Q q g true is = g (below_is limit (level n) is)
+room_or limit n m ts f Q q g false is = stopped (q (λ lt. let other : is_below limit (level n) ≡ true = is_below_is limit (level n) lt in cc))
+
+-- the same, where what is said of the stop wants that there is no room
+pub room_else : {B : Type 0} (limit : Limit) (n m : Nesting) (ts : Tokens) (f : Nesting → Answer B) {Q : Stop → Type 0} → ((HasRoom limit n → ⊥) → Q (deep ts)) → (HasRoom limit n → Stops (f m) Q) → Stops (with_room limit n m ts >>= f) Q
+room_else limit n m ts f {Q = Q} q g = room_or limit n m ts f Q q g (is_below limit (level n)) refl
 
 pub call_mark_then : {B : Type 0} (limit : Limit) (b : Bool) (l : Nesting) (ts : Tokens) (f : Nesting → Answer B) (Q : Stop → Type 0) → Q (deep ts) → Stops (f (before_call b l)) Q → Stops (call_mark limit b l ts >>= f) Q
 call_mark_then limit true l ts f Q q g = room_then limit l (marked l) ts f q (λ lt. g)

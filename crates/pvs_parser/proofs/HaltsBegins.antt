@@ -71,25 +71,29 @@ made {m = m} {all = all} {more = more} {x = x} s d = record { all = all; more = 
 pub completed : {w : Limit} {s : Nonterminal} {l m : Nesting} {ts : Tokens} {x : Tree s} → Derives w s l ts x m → Completes w s l ts
 completed {ts = ts} d = made (record { same = sym (append-nil ts) }) d
 
+-- the tokens that complete them, what they are completed to, and the nesting behind it
+pub completion : {w : Limit} {s : Nonterminal} {l : Nesting} {p : Tokens} → Completes w s l p → (c : Tokens) × (x : Tree s) × (m : Nesting) × Derives w s l (p ++ c) x m
+completion {w = w} {s = s} {l = l} c = (c.more, c.tree, c.behind, subst (λ z. Derives w s l z c.tree c.behind) c.split.same c.derives)
+
 -- with more behind
-extend : {all p more : Tokens} (us : Tokens) → Splits all p more → Splits (all ++ us) p (more ++ us)
+pub extend : {all p more : Tokens} (us : Tokens) → Splits all p more → Splits (all ++ us) p (more ++ us)
 extend {p = p} {more = more} us s = record { same = ap (λ z. z ++ us) s.same ∙ append_assoc p more us }
 
 -- ---- the shortest sentences
 
-abbrev tok : TerminalKind → Terminal
+abbrev pub tok : TerminalKind → Terminal
 tok k = record { kind = k; word = record { start = 0; end = 0; pos = record { line = 1; col = 1 } } }
 
-abbrev T : Tokens
+abbrev pub T : Tokens
 T = tok kind.True ∷ []
 
-abbrev x_true : Expr
+abbrev pub x_true : Expr
 x_true = expr.Truth true (tok kind.True).word.pos
 
-abbrev I : Tokens
+abbrev pub I : Tokens
 I = tok kind.Id ∷ []
 
-abbrev x_id : TypeExpr
+abbrev pub x_id : TypeExpr
 x_id = type_expr.NameType (named (tok kind.Id).word)
 
 true_term : (w : Limit) (l : Nesting) → Derives w (form (Form.Term false)) l T x_true l
@@ -107,7 +111,7 @@ true_or w l = Derives.alone connective.Or Plain l l T x_true (true_and w l)
 true_implies : (w : Limit) (l : Nesting) → Derives w (form (Form.Chain connective.Implies Plain)) l T x_true l
 true_implies w l = Derives.alone connective.Implies Plain l l T x_true (true_or w l)
 
-true_whole : (w : Limit) (l : Nesting) → Derives w (whole Plain) l T x_true l
+pub true_whole : (w : Limit) (l : Nesting) → Derives w (whole Plain) l T x_true l
 true_whole w l = Derives.alone connective.Iff Plain l l T x_true (true_implies w l)
 
 true_chain : (w : Limit) (c : Connective) (l : Nesting) → Derives w (form (Form.Chain c Plain)) l T x_true l
@@ -116,10 +120,10 @@ true_chain w connective.Implies l = true_implies w l
 true_chain w connective.Or l = true_or w l
 true_chain w connective.And l = true_and w l
 
-true_item : (w : Limit) (l : Nesting) → Derives w (item Item.Expression) l T x_true l
+pub true_item : (w : Limit) (l : Nesting) → Derives w (item Item.Expression) l T x_true l
 true_item w l = Derives.expression Plain l l T x_true (true_whole w l)
 
-id_type : (w : Limit) (l : Nesting) → Derives w type_ l I x_id l
+pub id_type : (w : Limit) (l : Nesting) → Derives w type_ l I x_id l
 id_type w l = Derives.name_type l l I (named (tok kind.Id).word) (Derives.plain_name l (tok kind.Id) refl)
 
 true_otherwise : (w : Limit) (l : Nesting) → Derives w (form Form.Otherwise) l (tok kind.Else ∷ (T ++ tok kind.EndIf ∷ [])) x_true (cleared l)
@@ -231,6 +235,31 @@ one_list i {l = l} c = made c.split (Derives.one i l c.behind c.all c.tree c.der
 
 pub some_list : {w : Limit} (i : Item) {l : Nesting} → Completes w (list i) l []
 some_list i = one_list i (some_item i)
+
+-- to a list in a frame, and the sign that ends it
+pub record FramedBegun (w : Limit) (i : Item) (end : TerminalKind) (l : Nesting) (p : Tokens) : Type 0 where
+  pub all : Tokens
+  pub more : Tokens
+  pub close : Terminal
+  pub split : Splits (all ++ close ∷ []) p more
+  pub tree : List (ItemTree i)
+  pub behind : Nesting
+  pub room : HasRoom w l
+  pub derives : Derives w (list i) (inside l) all tree behind
+  pub is : Is end close
+
+pub framed_begun : {w : Limit} {i : Item} (end : TerminalKind) {l : Nesting} {p : Tokens} → HasRoom w l → Completes w (list i) (inside l) p → FramedBegun w i end l p
+framed_begun end lt c = record {
+  all = c.all;
+  more = c.more ++ tok end ∷ [];
+  close = tok end;
+  split = extend (tok end ∷ []) c.split;
+  tree = c.tree;
+  behind = c.behind;
+  room = lt;
+  derives = c.derives;
+  is = refl;
+}
 
 -- ---- names
 

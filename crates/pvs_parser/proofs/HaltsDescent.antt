@@ -23,7 +23,7 @@ use Rattle.pvs_syntax.specs.declared.expression.InfixWord.{InfixWord}
 use Rattle.pvs_syntax.specs.declared.expression.TypeExpr.{TypeExpr}
 use Rattle.pvs_parser.specs.Terminals.{Is, IsId, is_id}
 use Rattle.pvs_parser.specs.Language.{Limit, Tokens, IsBelow, HasRoom, level, Derives, Ending, Plain, Bound, Form, Item, form, item, list, name, inst, type_, ItemTree, inside, cleared, marked, held, tighter, sign, operator, instance, before_call, comparison, binder_word, begins_type}
-use Rattle.pvs_parser.specs.Descent.{Answer, Read, Go, ◌>>=◌, stop, too_many, starts_item, after, crowded, entries, deeper, list_from, list_with, framed_with, mark, name_of, name_after, condition_with, cond_with, first_of, first_with, call_with, project, term_from, term_with, body_with, binder_with, let_with, not_with, prefix, prefixed_with, compared_from, operand_with, chain_on, chain_after, between_with, chain_with, otherwise_of, otherwise_with, tuple_type, fun_type_with, base_with, sub_type_with, type_of, type_with, parameter_of, parameter_with, unnamed_with, component_with, variable_with, definition_with, item_with, step, expr_with, reader}
+use Rattle.pvs_parser.specs.Descent.{Answer, Read, Go, ◌>>=◌, stop, expect, too_many, starts_item, after, crowded, entries, deeper, list_from, list_with, framed_with, mark, name_of, name_after, condition_with, cond_with, first_of, first_with, call_with, project, term_from, term_with, body_with, binder_with, let_with, not_with, prefix, prefixed_with, compared_from, operand_with, chain_on, chain_after, between_with, chain_with, otherwise_of, otherwise_with, tuple_type, fun_type_with, base_with, sub_type_with, type_of, type_with, parameter_of, parameter_with, unnamed_with, component_with, variable_with, definition_with, item_with, step, expr_with, reader}
 use Rattle.pvs_parser.proofs.Yields.{Yields}
 use Rattle.pvs_parser.proofs.Follows.{pull_of, reach}
 use Rattle.pvs_parser.proofs.Gets.{unglue}
@@ -228,12 +228,18 @@ module _ (go : Go) (sound : Sound go) (a : ℕ) (halting : Halting go a) where
   pub list_with_stops : (i : Item) → IsBelow go.limit 0 → (l : Nesting) (ts : Tokens) → length ts < a → Stops (list_with go i l ts) (Halts go.limit (λ w p. Completes w (list i) l p) ts)
   list_with_stops i lt l ts small = entries_stops go.limit i (item_with go i) (λ l ts. item_sound go sound i l ts) a (λ l ts small. item_stops i l ts small) lt l ts small
 
+  -- a list and the sign that ends its frame, at a place in the frame
+  pub inside_stops : (i : Item) (end : TerminalKind) (l : Nesting) {K : Limit → Tokens → Type 0} {ts us : Tokens} {f : Tokens → Tokens} → HasRoom go.limit l → Place ts f us
+      → ((w : Limit) → Wider go.limit w → (p : Tokens) → Completes w (list i) (inside l) p → K w (f p)) → length us < a
+      → Stops {A = List (ItemTree i) × Tokens} (list_with go i (inside l) us >>= λ p. expect end p.2 >>= λ vs. Ok (p.0, vs)) (Halts go.limit K ts)
+  inside_stops i end l {us = us} lt place k small =
+      bind (list_with_sound go sound i (inside l) us) (into (list_with_stops i (below_zero go.limit (level l) lt) (inside l) us small) place k) (λ p f.
+      expect_then end p.2 _ (unexpected (upto place f.1) (λ w wide. k w wide f.0 (completed (wider wide f.2)))) (λ vs b. goes))
+
   -- a list in a frame, at a place behind the sign that opens it
   pub framed_stops : (i : Item) (end : TerminalKind) (l : Nesting) {K : Limit → Tokens → Type 0} {ts us : Tokens} {f : Tokens → Tokens} → Place ts f us → Halts go.limit K ts (deep us)
       → (HasRoom go.limit l → (w : Limit) → Wider go.limit w → (p : Tokens) → Completes w (list i) (inside l) p → K w (f p)) → length us < a → Stops (framed_with go i end l us) (Halts go.limit K ts)
-  framed_stops i end l {us = us} place too_deep k small = room_then go.limit l (inside l) us _ too_deep (λ lt.
-      bind (list_with_sound go sound i (inside l) us) (into (list_with_stops i (below_zero go.limit (level l) lt) (inside l) us small) place (k lt)) (λ p f.
-      expect_then end p.2 _ (unexpected (upto place f.1) (λ w wide. k lt w wide f.0 (completed (wider wide f.2)))) (λ vs b. goes)))
+  framed_stops i end l {us = us} place too_deep k small = room_then go.limit l (inside l) us _ too_deep (λ lt. inside_stops i end l lt place (k lt) small)
 
   -- ---- names
 

@@ -14,3 +14,4 @@ pub mod Halts
 pub mod HaltsWiden
 pub mod HaltsBegins
 pub mod HaltsDescent
+pub mod HaltsWholes
