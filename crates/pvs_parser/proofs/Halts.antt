@@ -1,5 +1,5 @@
 -- Where reading stops, the tokens before the stop can be completed: what is said of a stop, and the steps of its proof.
-use Rattle.std.proofs.Common.{◌≡◌, ◌∙◌, ◌⊎◌, inl, inr, ℕ, suc, ◌+◌, ◌<◌, ◌≤◌, Bool, true, false, if◌then◌else◌, List, [], ◌∷◌, ◌++◌, length, Option, Some, None, Ok, Err, refl, sym, ap, subst, append_assoc, length-append, rules, arith}
+use Rattle.std.proofs.Common.{◌≡◌, ◌∙◌, ◌⊎◌, inl, inr, ℕ, ◌+◌, Bool, true, false, if◌then◌else◌, [], ◌∷◌, ◌++◌, length, Option, Some, None, Ok, Err, refl, sym, ap, subst, append_assoc, rules, arith}
 use Rattle.std.proofs.lemmas.Bool.{ltb-true}
 use Rattle.pvs_parser.specs.declared.failure.Reason.{Reason}
 use Rattle.pvs_parser.specs.declared.failure.Reason.TheVariants as reason

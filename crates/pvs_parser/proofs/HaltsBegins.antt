@@ -8,8 +8,6 @@ use Rattle.pvs_parser.specs.declared.terminal.Connective.TheVariants as connecti
 use Rattle.pvs_parser.specs.declared.terminal.Terminal.{Terminal}
 use Rattle.pvs_parser.specs.declared.terminal.TerminalKind.{TerminalKind}
 use Rattle.pvs_parser.specs.declared.terminal.TerminalKind.TheVariants as kind
-use Rattle.pvs_syntax.specs.declared.word.Word.{Word}
-use Rattle.pvs_syntax.specs.declared.expression.Actual.TheVariants as actual
 use Rattle.pvs_syntax.specs.declared.expression.Binding.{Binding}
 use Rattle.pvs_syntax.specs.declared.expression.BinderWord.{BinderWord}
 use Rattle.pvs_syntax.specs.declared.expression.BinderWord.TheVariants as binders
@@ -18,11 +16,10 @@ use Rattle.pvs_syntax.specs.declared.expression.Expr.TheVariants as expr
 use Rattle.pvs_syntax.specs.declared.expression.InfixWord.{InfixWord}
 use Rattle.pvs_syntax.specs.declared.expression.InstExpr.{InstExpr}
 use Rattle.pvs_syntax.specs.declared.expression.LetPart.{LetPart}
-use Rattle.pvs_syntax.specs.declared.expression.NameExpr.{NameExpr}
 use Rattle.pvs_syntax.specs.declared.expression.TypeExpr.{TypeExpr}
 use Rattle.pvs_syntax.specs.declared.expression.TypeExpr.TheVariants as type_expr
 use Rattle.pvs_parser.specs.Terminals.{Is, IsId, is_id}
-use Rattle.pvs_parser.specs.Language.{Limit, Tokens, IsBelow, HasRoom, level, Derives, Ending, Plain, Bound, Form, Item, Nonterminal, form, item, list, name, inst, type_, Tree, ItemTree, inside, cleared, marked, held, before_call, named, untyped, typed, equation, grouped, tighter, sign, operator, comparison, binder_word, begins_type, whole}
+use Rattle.pvs_parser.specs.Language.{Limit, Tokens, IsBelow, HasRoom, level, Derives, Ending, Plain, Bound, Form, Item, Nonterminal, form, item, list, name, inst, type_, Tree, ItemTree, inside, cleared, marked, held, before_call, named, tighter, sign, comparison, binder_word, begins_type, whole}
 use Rattle.pvs_parser.specs.Descent.{starts_expr, starts_type, starts_item}
 use Rattle.pvs_parser.proofs.Nonempty.{nonempty}
 use Rattle.pvs_parser.proofs.Gets.{both}
@@ -84,50 +81,50 @@ extend {p = p} {more = more} us s = record { same = ap (λ z. z ++ us) s.same �
 abbrev pub tok : TerminalKind → Terminal
 tok k = record { kind = k; word = record { start = 0; end = 0; pos = record { line = 1; col = 1 } } }
 
-abbrev pub T : Tokens
-T = tok kind.True ∷ []
+abbrev pub true_tokens : Tokens
+true_tokens = tok kind.True ∷ []
 
-abbrev pub x_true : Expr
-x_true = expr.Truth true (tok kind.True).word.pos
+abbrev pub true_tree : Expr
+true_tree = expr.Truth true (tok kind.True).word.pos
 
-abbrev pub I : Tokens
-I = tok kind.Id ∷ []
+abbrev pub id_tokens : Tokens
+id_tokens = tok kind.Id ∷ []
 
-abbrev pub x_id : TypeExpr
-x_id = type_expr.NameType (named (tok kind.Id).word)
+abbrev pub id_tree : TypeExpr
+id_tree = type_expr.NameType (named (tok kind.Id).word)
 
-true_term : (w : Limit) (l : Nesting) → Derives w (form (Form.Term false)) l T x_true l
+true_term : (w : Limit) (l : Nesting) → Derives w (form (Form.Term false)) l true_tokens true_tree l
 true_term w l = Derives.truth l (tok kind.True) refl
 
-true_operand : (w : Limit) (l : Nesting) → Derives w (form (Form.Operand Plain)) l T x_true l
-true_operand w l = Derives.compared l l T x_true (Derives.term false l l T x_true (true_term w l))
+true_operand : (w : Limit) (l : Nesting) → Derives w (form (Form.Operand Plain)) l true_tokens true_tree l
+true_operand w l = Derives.compared l l true_tokens true_tree (Derives.term false l l true_tokens true_tree (true_term w l))
 
-true_and : (w : Limit) (l : Nesting) → Derives w (form (Form.Chain connective.And Plain)) l T x_true l
-true_and w l = Derives.alone connective.And Plain l l T x_true (true_operand w l)
+true_and : (w : Limit) (l : Nesting) → Derives w (form (Form.Chain connective.And Plain)) l true_tokens true_tree l
+true_and w l = Derives.alone connective.And Plain l l true_tokens true_tree (true_operand w l)
 
-true_or : (w : Limit) (l : Nesting) → Derives w (form (Form.Chain connective.Or Plain)) l T x_true l
-true_or w l = Derives.alone connective.Or Plain l l T x_true (true_and w l)
+true_or : (w : Limit) (l : Nesting) → Derives w (form (Form.Chain connective.Or Plain)) l true_tokens true_tree l
+true_or w l = Derives.alone connective.Or Plain l l true_tokens true_tree (true_and w l)
 
-true_implies : (w : Limit) (l : Nesting) → Derives w (form (Form.Chain connective.Implies Plain)) l T x_true l
-true_implies w l = Derives.alone connective.Implies Plain l l T x_true (true_or w l)
+true_implies : (w : Limit) (l : Nesting) → Derives w (form (Form.Chain connective.Implies Plain)) l true_tokens true_tree l
+true_implies w l = Derives.alone connective.Implies Plain l l true_tokens true_tree (true_or w l)
 
-pub true_whole : (w : Limit) (l : Nesting) → Derives w (whole Plain) l T x_true l
-true_whole w l = Derives.alone connective.Iff Plain l l T x_true (true_implies w l)
+pub true_whole : (w : Limit) (l : Nesting) → Derives w (whole Plain) l true_tokens true_tree l
+true_whole w l = Derives.alone connective.Iff Plain l l true_tokens true_tree (true_implies w l)
 
-true_chain : (w : Limit) (c : Connective) (l : Nesting) → Derives w (form (Form.Chain c Plain)) l T x_true l
+true_chain : (w : Limit) (c : Connective) (l : Nesting) → Derives w (form (Form.Chain c Plain)) l true_tokens true_tree l
 true_chain w connective.Iff l = true_whole w l
 true_chain w connective.Implies l = true_implies w l
 true_chain w connective.Or l = true_or w l
 true_chain w connective.And l = true_and w l
 
-pub true_item : (w : Limit) (l : Nesting) → Derives w (item Item.Expression) l T x_true l
-true_item w l = Derives.expression Plain l l T x_true (true_whole w l)
+pub true_item : (w : Limit) (l : Nesting) → Derives w (item Item.Expression) l true_tokens true_tree l
+true_item w l = Derives.expression Plain l l true_tokens true_tree (true_whole w l)
 
-pub id_type : (w : Limit) (l : Nesting) → Derives w type_ l I x_id l
-id_type w l = Derives.name_type l l I (named (tok kind.Id).word) (Derives.plain_name l (tok kind.Id) refl)
+pub id_type : (w : Limit) (l : Nesting) → Derives w type_ l id_tokens id_tree l
+id_type w l = Derives.name_type l l id_tokens (named (tok kind.Id).word) (Derives.plain_name l (tok kind.Id) refl)
 
-true_otherwise : (w : Limit) (l : Nesting) → Derives w (form Form.Otherwise) l (tok kind.Else ∷ (T ++ tok kind.EndIf ∷ [])) x_true (cleared l)
-true_otherwise w l = Derives.else_ l (cleared l) T x_true (tok kind.Else) (tok kind.EndIf) refl (true_item w (cleared l)) refl
+true_otherwise : (w : Limit) (l : Nesting) → Derives w (form Form.Otherwise) l (tok kind.Else ∷ (true_tokens ++ tok kind.EndIf ∷ [])) true_tree (cleared l)
+true_otherwise w l = Derives.else_ l (cleared l) true_tokens true_tree (tok kind.Else) (tok kind.EndIf) refl (true_item w (cleared l)) refl
 
 -- TRUE, as each form of an expression
 pub some_term : {w : Limit} {l : Nesting} → TermBegun w l []
@@ -152,11 +149,11 @@ some_type {w = w} {l = l} = made nothing (id_type w l)
 -- an identifier or TRUE, as an item
 pub some_item : {w : Limit} (i : Item) {l : Nesting} → Completes w (item i) l []
 some_item Item.Expression = some_expr
-some_item {w = w} Item.Parameter {l = l} = made nothing (Derives.expr_actual Plain l l T x_true (true_whole w l))
-some_item {w = w} Item.Component {l = l} = made nothing (Derives.component l l [] x_id (tok kind.Id) (id_type w l))
+some_item {w = w} Item.Parameter {l = l} = made nothing (Derives.expr_actual Plain l l true_tokens true_tree (true_whole w l))
+some_item {w = w} Item.Component {l = l} = made nothing (Derives.component l l [] id_tree (tok kind.Id) (id_type w l))
 some_item {w = w} Item.Variable {l = l} = made nothing (Derives.untyped_variable l (tok kind.Id) refl)
 some_item {w = w} Item.BareVariable {l = l} = made nothing (Derives.bare_variable l (tok kind.Id) refl)
-some_item {w = w} Item.Definition {l = l} = made nothing (Derives.untyped_part Plain l l T x_true (tok kind.Id) (tok kind.Equal) refl refl (true_whole w l))
+some_item {w = w} Item.Definition {l = l} = made nothing (Derives.untyped_part Plain l l true_tokens true_tree (tok kind.Id) (tok kind.Equal) refl refl (true_whole w l))
 
 -- ---- items
 
@@ -183,7 +180,7 @@ typed_variable_begun {l = l} {t = t} {u = u} is colon c = made (put refl (put re
 -- id : type, before the sign
 pub typed_part_begun : {w : Limit} {l : Nesting} {p : Tokens} {t u : Terminal} → IsId t → Is kind.Colon u → Completes w type_ l p → Completes w (item Item.Definition) l (t ∷ u ∷ p)
 typed_part_begun {w = w} {l = l} {t = t} {u = u} is colon c =
-    made (put refl (put refl (extend (tok kind.Equal ∷ T) c.split))) (Derives.typed_part Plain l c.behind c.behind c.all T c.tree x_true t u (tok kind.Equal) is colon c.derives refl (true_whole w c.behind))
+    made (put refl (put refl (extend (tok kind.Equal ∷ true_tokens) c.split))) (Derives.typed_part Plain l c.behind c.behind c.all true_tokens c.tree true_tree t u (tok kind.Equal) is colon c.derives refl (true_whole w c.behind))
 
 pub typed_value_begun : {w : Limit} {l k : Nesting} {vs p : Tokens} {a : TypeExpr} {t u : Terminal} (v : Terminal) → IsId t → Is kind.Colon u → Derives w type_ l vs a k → Is kind.Equal v → Begun w (λ e. Form.Chain connective.Iff e) k p
     → Completes w (item Item.Definition) l (t ∷ u ∷ (vs ++ v ∷ p))
@@ -192,7 +189,7 @@ typed_value_begun {l = l} {k = k} {vs = vs} {a = a} {t = t} {u = u} v is colon d
 
 -- id, before the sign
 pub part_begun : {w : Limit} {l : Nesting} {t : Terminal} → IsId t → Completes w (item Item.Definition) l (t ∷ [])
-part_begun {w = w} {l = l} {t = t} is = made (put refl nothing) (Derives.untyped_part Plain l l T x_true t (tok kind.Equal) is refl (true_whole w l))
+part_begun {w = w} {l = l} {t = t} is = made (put refl nothing) (Derives.untyped_part Plain l l true_tokens true_tree t (tok kind.Equal) is refl (true_whole w l))
 
 pub value_begun : {w : Limit} {l : Nesting} {p : Tokens} {t u : Terminal} → IsId t → Is kind.Equal u → Begun w (λ e. Form.Chain connective.Iff e) l p → Completes w (item Item.Definition) l (t ∷ u ∷ p)
 value_begun {l = l} {t = t} {u = u} is equal g = let c = g.1 in made (put refl (put refl c.split)) (Derives.untyped_part g.0 l c.behind c.all c.tree t u is equal c.derives)
@@ -275,7 +272,7 @@ dot_begun {l = l} {m = m} {vs = vs} {i = i} t d dot = made (glue both (alone ref
 
 pub actuals_begun : {w : Limit} {l : Nesting} {p : Tokens} {t u : Terminal} → IsId t → Is kind.OpenBracket u → HasRoom w l → Completes w (list Item.Parameter) (inside l) p → Completes w name l (t ∷ u ∷ p)
 actuals_begun {l = l} {t = t} {u = u} is opened lt c =
-    made (extend (tok kind.Dot ∷ I) (put refl (put refl (extend (tok kind.CloseBracket ∷ []) c.split))))
+    made (extend (tok kind.Dot ∷ id_tokens) (put refl (put refl (extend (tok kind.CloseBracket ∷ []) c.split))))
     (Derives.qualified_name l l _ _ (tok kind.Dot) (tok kind.Id) (Derives.inst_with l c.behind c.all c.tree t u (tok kind.CloseBracket) is opened lt c.derives refl) refl refl)
 
 -- ---- terms
@@ -308,14 +305,14 @@ pub record CondBegun (w : Limit) (l : Nesting) (p : Tokens) : Type 0 where
 pub test_begun : {w : Limit} {l : Nesting} {p : Tokens} → Completes w (item Item.Expression) l p → CondBegun w l p
 test_begun {w = w} c = record {
   vs = c.all;
-  us = T;
+  us = true_tokens;
   ws = _;
   u = tok kind.Then;
   more = _;
   split = extend _ c.split;
   c = c.tree;
-  x = x_true;
-  y = x_true;
+  x = true_tree;
+  y = true_tree;
   k = c.behind;
   j = cleared c.behind;
   m = cleared (cleared c.behind);
@@ -335,7 +332,7 @@ then_begun {w = w} {k = k} {vs = vs} {x = x} u d is c = record {
   split = glue both (put refl (extend _ c.split));
   c = x;
   x = c.tree;
-  y = x_true;
+  y = true_tree;
   k = k;
   j = c.behind;
   m = cleared c.behind;
@@ -390,14 +387,20 @@ not_begun {l = l} {t = t} is lt g = let c = g.1 in (g.0, made (put refl c.split)
 
 pub bindings_begun : {w : Limit} {l : Nesting} {p : Tokens} {b : BinderWord} {t u : Terminal} → binder_word t.kind ≡ Some b → HasRoom w l → Is kind.Open u → HasRoom w (held l) → Completes w (list Item.Variable) (inside (held l)) p
     → Begun w (λ e. Form.Prefixed e) l (t ∷ u ∷ p)
-bindings_begun {w = w} {l = l} {b = b} {t = t} {u = u} is lt opened has c = (Bound, made (put refl (put refl (extend (tok kind.Close ∷ tok kind.Colon ∷ T) c.split)))
-    (Derives.binder Plain l c.behind (held l) c.all T c.tree x_true b t u (tok kind.Close) (tok kind.Colon) is lt opened has c.derives refl refl (true_whole w (held l))))
+bindings_begun {w = w} {l = l} {b = b} {t = t} {u = u} is lt opened has c = (
+  Bound,
+  made (put refl (put refl (extend (tok kind.Close ∷ tok kind.Colon ∷ true_tokens) c.split)))
+      (Derives.binder Plain l c.behind (held l) c.all true_tokens c.tree true_tree b t u (tok kind.Close) (tok kind.Colon) is lt opened has c.derives refl refl (true_whole w (held l))),
+)
 
 -- before the colon
 pub bound_begun : {w : Limit} {l k : Nesting} {vs : Tokens} {bs : List Binding} {b : BinderWord} {t u : Terminal} (v : Terminal) → binder_word t.kind ≡ Some b → HasRoom w l → Is kind.Open u → HasRoom w (held l) → Derives w (list Item.Variable) (inside (held l)) vs bs k
     → Is kind.Close v → Begun w (λ e. Form.Prefixed e) l (t ∷ u ∷ (vs ++ v ∷ []))
-bound_begun {w = w} {l = l} {k = k} {vs = vs} {bs = bs} {b = b} {t = t} {u = u} v is lt opened has d close = (Bound, made (put refl (put refl (glue both (alone refl))))
-    (Derives.binder Plain l k (held l) vs T bs x_true b t u v (tok kind.Colon) is lt opened has d close refl (true_whole w (held l))))
+bound_begun {w = w} {l = l} {k = k} {vs = vs} {bs = bs} {b = b} {t = t} {u = u} v is lt opened has d close = (
+  Bound,
+  made (put refl (put refl (glue both (alone refl))))
+      (Derives.binder Plain l k (held l) vs true_tokens bs true_tree b t u v (tok kind.Colon) is lt opened has d close refl (true_whole w (held l))),
+)
 
 pub binder_begun : {w : Limit} {l k : Nesting} {vs p : Tokens} {bs : List Binding} {b : BinderWord} {t u : Terminal} (v c : Terminal) → binder_word t.kind ≡ Some b → HasRoom w l → Is kind.Open u → HasRoom w (held l) → Derives w (list Item.Variable) (inside (held l)) vs bs k
     → Is kind.Close v → Is kind.Colon c → Begun w (λ e. Form.Chain connective.Iff e) (held l) p → Begun w (λ e. Form.Prefixed e) l (t ∷ u ∷ (vs ++ v ∷ c ∷ p))
@@ -405,8 +408,11 @@ binder_begun {l = l} {k = k} {vs = vs} {bs = bs} {b = b} {t = t} {u = u} v c is 
     let z = g.1 in (Bound, made (put refl (put refl (glue both (put refl (put refl z.split))))) (Derives.binder g.0 l k z.behind vs z.all bs z.tree b t u v c is lt opened has d close colon z.derives))
 
 pub bare_begun : {w : Limit} {l : Nesting} {p : Tokens} {b : BinderWord} {t : Terminal} → binder_word t.kind ≡ Some b → HasRoom w l → Completes w (list Item.BareVariable) (held l) p → Begun w (λ e. Form.Prefixed e) l (t ∷ p)
-bare_begun {w = w} {l = l} {b = b} {t = t} is lt c = (Bound, made (put refl (extend (tok kind.Colon ∷ T) c.split))
-    (Derives.bare_binder Plain l c.behind c.behind c.all T c.tree x_true b t (tok kind.Colon) is lt c.derives refl (true_whole w c.behind)))
+bare_begun {w = w} {l = l} {b = b} {t = t} is lt c = (
+  Bound,
+  made (put refl (extend (tok kind.Colon ∷ true_tokens) c.split))
+      (Derives.bare_binder Plain l c.behind c.behind c.all true_tokens c.tree true_tree b t (tok kind.Colon) is lt c.derives refl (true_whole w c.behind)),
+)
 
 pub bare_binder_begun : {w : Limit} {l k : Nesting} {vs p : Tokens} {bs : List Binding} {b : BinderWord} {t : Terminal} (c : Terminal) → binder_word t.kind ≡ Some b → HasRoom w l → Derives w (list Item.BareVariable) (held l) vs bs k
     → Is kind.Colon c → Begun w (λ e. Form.Chain connective.Iff e) k p → Begun w (λ e. Form.Prefixed e) l (t ∷ (vs ++ c ∷ p))
@@ -414,8 +420,11 @@ bare_binder_begun {l = l} {k = k} {vs = vs} {bs = bs} {b = b} {t = t} c is lt d 
     let z = g.1 in (Bound, made (put refl (glue both (put refl z.split))) (Derives.bare_binder g.0 l k z.behind vs z.all bs z.tree b t c is lt d colon z.derives))
 
 pub let_begun : {w : Limit} {l : Nesting} {p : Tokens} {t : Terminal} → Is kind.Let t → HasRoom w l → Completes w (list Item.Definition) (held l) p → Begun w (λ e. Form.Prefixed e) l (t ∷ p)
-let_begun {w = w} {l = l} {t = t} is lt c = (Bound, made (put refl (extend (tok kind.In ∷ T) c.split))
-    (Derives.let_in Plain l c.behind c.behind c.all T c.tree x_true t (tok kind.In) is lt c.derives refl (true_whole w c.behind)))
+let_begun {w = w} {l = l} {t = t} is lt c = (
+  Bound,
+  made (put refl (extend (tok kind.In ∷ true_tokens) c.split))
+      (Derives.let_in Plain l c.behind c.behind c.all true_tokens c.tree true_tree t (tok kind.In) is lt c.derives refl (true_whole w c.behind)),
+)
 
 pub in_begun : {w : Limit} {l k : Nesting} {vs p : Tokens} {ps : List LetPart} {t : Terminal} (u : Terminal) → Is kind.Let t → HasRoom w l → Derives w (list Item.Definition) (held l) vs ps k → Is kind.In u → Begun w (λ e. Form.Chain connective.Iff e) k p
     → Begun w (λ e. Form.Prefixed e) l (t ∷ (vs ++ u ∷ p))
@@ -461,16 +470,16 @@ pred_begun {l = l} {t = t} is lt c = made (put refl (extend (tok kind.Close ∷ 
 -- { id : type
 pub base_begun : {w : Limit} {l : Nesting} {p : Tokens} {t u v : Terminal} → Is kind.OpenBrace t → HasRoom w l → IsId u → Is kind.Colon v → Completes w type_ (inside l) p → Completes w type_ l (t ∷ u ∷ v ∷ p)
 base_begun {w = w} {l = l} {t = t} {u = u} {v = v} is lt id colon c =
-    made (put refl (put refl (put refl (extend (tok kind.Bar ∷ (T ++ tok kind.CloseBrace ∷ [])) c.split))))
-    (Derives.sub_type l c.behind c.behind c.all T c.tree x_true t u v (tok kind.Bar) (tok kind.CloseBrace) is lt id colon c.derives refl (true_item w c.behind) refl)
+    made (put refl (put refl (put refl (extend (tok kind.Bar ∷ (true_tokens ++ tok kind.CloseBrace ∷ [])) c.split))))
+    (Derives.sub_type l c.behind c.behind c.all true_tokens c.tree true_tree t u v (tok kind.Bar) (tok kind.CloseBrace) is lt id colon c.derives refl (true_item w c.behind) refl)
 
 pub brace_begun : {w : Limit} {l : Nesting} {t : Terminal} → Is kind.OpenBrace t → HasRoom w l → Completes w type_ l (t ∷ [])
 brace_begun {w = w} {l = l} {t = t} is lt =
-    made (put refl nothing) (Derives.sub_type l (inside l) (inside l) I T x_id x_true t (tok kind.Id) (tok kind.Colon) (tok kind.Bar) (tok kind.CloseBrace) is lt refl refl (id_type w (inside l)) refl (true_item w (inside l)) refl)
+    made (put refl nothing) (Derives.sub_type l (inside l) (inside l) id_tokens true_tokens id_tree true_tree t (tok kind.Id) (tok kind.Colon) (tok kind.Bar) (tok kind.CloseBrace) is lt refl refl (id_type w (inside l)) refl (true_item w (inside l)) refl)
 
 pub brace_id_begun : {w : Limit} {l : Nesting} {t u : Terminal} → Is kind.OpenBrace t → HasRoom w l → IsId u → Completes w type_ l (t ∷ u ∷ [])
 brace_id_begun {w = w} {l = l} {t = t} {u = u} is lt id =
-    made (put refl (put refl nothing)) (Derives.sub_type l (inside l) (inside l) I T x_id x_true t u (tok kind.Colon) (tok kind.Bar) (tok kind.CloseBrace) is lt id refl (id_type w (inside l)) refl (true_item w (inside l)) refl)
+    made (put refl (put refl nothing)) (Derives.sub_type l (inside l) (inside l) id_tokens true_tokens id_tree true_tree t u (tok kind.Colon) (tok kind.Bar) (tok kind.CloseBrace) is lt id refl (id_type w (inside l)) refl (true_item w (inside l)) refl)
 
 pub sub_begun : {w : Limit} {l k : Nesting} {vs p : Tokens} {a : TypeExpr} {t u v : Terminal} (y : Terminal) → Is kind.OpenBrace t → HasRoom w l → IsId u → Is kind.Colon v → Derives w type_ (inside l) vs a k → Is kind.Bar y → Completes w (item Item.Expression) k p
     → Completes w type_ l (t ∷ u ∷ v ∷ (vs ++ y ∷ p))
@@ -480,8 +489,8 @@ sub_begun {l = l} {k = k} {vs = vs} {a = a} {t = t} {u = u} {v = v} y is lt id c
 
 pub domain_begun : {w : Limit} {l : Nesting} {p : Tokens} {t : Terminal} → Is kind.OpenBracket t → HasRoom w l → Completes w (list Item.Component) (inside l) p → Completes w type_ l (t ∷ p)
 domain_begun {w = w} {l = l} {t = t} is lt c =
-    made (put refl (extend (tok kind.Arrow ∷ (I ++ tok kind.CloseBracket ∷ [])) c.split))
-    (Derives.fun_type l c.behind c.behind c.all I c.tree x_id t (tok kind.Arrow) (tok kind.CloseBracket) is lt c.derives refl (id_type w c.behind) refl)
+    made (put refl (extend (tok kind.Arrow ∷ (id_tokens ++ tok kind.CloseBracket ∷ [])) c.split))
+    (Derives.fun_type l c.behind c.behind c.all id_tokens c.tree id_tree t (tok kind.Arrow) (tok kind.CloseBracket) is lt c.derives refl (id_type w c.behind) refl)
 
 pub range_begun : {w : Limit} {l k : Nesting} {vs p : Tokens} {bs : List Binding} {t : Terminal} (u : Terminal) → Is kind.OpenBracket t → HasRoom w l → Derives w (list Item.Component) (inside l) vs bs k → Is kind.Arrow u → Completes w type_ k p
     → Completes w type_ l (t ∷ (vs ++ u ∷ p))

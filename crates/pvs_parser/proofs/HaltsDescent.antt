@@ -1,8 +1,7 @@
 -- Where the reading of expressions and types stops, the tokens before the stop can be completed.
-use Rattle.std.proofs.Common.{◌≡◌, ◌∙◌, ◌⊎◌, inl, inr, ℕ, zero, suc, ◌+◌, ◌<◌, ◌≤◌, Bool, true, false, if◌then◌else◌, List, [], ◌∷◌, ◌++◌, length, Option, Some, None, Ok, Err, refl, sym, ap, subst, append_assoc, append-nil, length-append, arith}
+use Rattle.std.proofs.Common.{◌≡◌, ◌∙◌, ◌⊎◌, inl, inr, ℕ, zero, suc, ◌+◌, ◌<◌, ◌≤◌, Bool, true, false, if◌then◌else◌, List, [], ◌∷◌, ◌++◌, length, Some, None, Ok, refl, sym, ap, subst, append_assoc, append-nil, arith}
 use Rattle.pvs_parser.specs.declared.failure.Reason.{Reason}
 use Rattle.pvs_parser.specs.declared.failure.Reason.TheVariants as reason
-use Rattle.pvs_parser.specs.declared.failure.Stop.{Stop}
 use Rattle.pvs_parser.specs.declared.nesting.Nesting.{Nesting}
 use Rattle.pvs_parser.specs.declared.start.Start.{Start}
 use Rattle.pvs_parser.specs.declared.start.Start.TheVariants as start
@@ -20,18 +19,17 @@ use Rattle.pvs_syntax.specs.declared.expression.BinderWord.{BinderWord}
 use Rattle.pvs_syntax.specs.declared.expression.Expr.{Expr}
 use Rattle.pvs_syntax.specs.declared.expression.Expr.TheVariants as expr
 use Rattle.pvs_syntax.specs.declared.expression.InfixWord.{InfixWord}
-use Rattle.pvs_syntax.specs.declared.expression.TypeExpr.{TypeExpr}
 use Rattle.pvs_parser.specs.Terminals.{Is, IsId, is_id}
 use Rattle.pvs_parser.specs.Language.{Limit, Tokens, IsBelow, HasRoom, level, Derives, Ending, Plain, Bound, Form, Item, form, item, list, name, inst, type_, ItemTree, inside, cleared, marked, held, tighter, sign, operator, instance, before_call, comparison, binder_word, begins_type}
-use Rattle.pvs_parser.specs.Descent.{Answer, Read, Go, ◌>>=◌, stop, expect, too_many, starts_item, after, crowded, entries, deeper, list_from, list_with, framed_with, mark, name_of, name_after, condition_with, cond_with, first_of, first_with, call_with, project, term_from, term_with, body_with, binder_with, let_with, not_with, prefix, prefixed_with, compared_from, operand_with, chain_on, chain_after, between_with, chain_with, otherwise_of, otherwise_with, tuple_type, fun_type_with, base_with, sub_type_with, type_of, type_with, parameter_of, parameter_with, unnamed_with, component_with, variable_with, definition_with, item_with, step, expr_with, reader}
+use Rattle.pvs_parser.specs.Descent.{Read, Go, ◌>>=◌, stop, expect, too_many, starts_item, crowded, entries, deeper, list_from, list_with, framed_with, mark, name_of, name_after, cond_with, first_of, first_with, call_with, project, term_from, term_with, body_with, binder_with, let_with, not_with, prefix, prefixed_with, compared_from, operand_with, chain_on, between_with, chain_with, otherwise_of, otherwise_with, tuple_type, fun_type_with, base_with, sub_type_with, type_of, type_with, parameter_of, parameter_with, unnamed_with, component_with, variable_with, definition_with, item_with, step, expr_with, reader}
 use Rattle.pvs_parser.proofs.Yields.{Yields}
 use Rattle.pvs_parser.proofs.Follows.{pull_of, reach}
 use Rattle.pvs_parser.proofs.Gets.{unglue}
-use Rattle.pvs_parser.proofs.DescentSteps.{Comes, after_yields, expect_yields, labels_yields, compares_yields, AtMost, entries_at_most, Splits, glue, put, alone, nothing}
-use Rattle.pvs_parser.proofs.DescentSound.{Formed, Front, Sound, Framed, expression_sound, item_sound, list_with_sound, framed_sound, condition_sound, first_sound, call_sound, project_sound, term_sound, operand_sound, chain_on_sound, between_sound, base_sound, bound_stops, IsPrefix, is_prefix_kind, splits_shorter, moved, sound_reader, reader_limit}
-use Rattle.pvs_parser.proofs.Halts.{Stops, goes, stopped, bind, then_, cases, weaken, at, deep, expect_then, number_stops, id_then, room_then, call_mark_then, begins_then, Wider, any, no_limit, Full, Why, Halts, unexpected, nested, Place, first, behind, past, upto, onto, same_place, into, Known, known}
+use Rattle.pvs_parser.proofs.DescentSteps.{Comes, after_yields, labels_yields, compares_yields, AtMost, Splits, glue, put, alone, nothing}
+use Rattle.pvs_parser.proofs.DescentSound.{Formed, Front, Sound, expression_sound, item_sound, list_with_sound, framed_sound, condition_sound, first_sound, call_sound, project_sound, term_sound, operand_sound, between_sound, base_sound, bound_stops, IsPrefix, is_prefix_kind, splits_shorter, moved, sound_reader}
+use Rattle.pvs_parser.proofs.Halts.{Stops, goes, stopped, bind, then_, cases, deep, expect_then, number_stops, id_then, room_then, call_mark_then, begins_then, Wider, any, no_limit, Why, Halts, unexpected, nested, Place, first, behind, past, upto, onto, same_place, into, known}
 use Rattle.pvs_parser.proofs.HaltsWiden.{wider}
-use Rattle.pvs_parser.proofs.HaltsBegins.{Completes, Begun, TermBegun, StartBegun, ListBegun, CondBegun, completed, some_term, some_operand, some_chain, some_expr, some_otherwise, some_type, some_item, some_list, expression_begun, actual_begun, type_actual_begun, component_begun, named_component_begun, typed_variable_begun, typed_part_begun, typed_value_begun, part_begun, value_begun, one_begun, more_begun, list_of, one_list, name_begun, instance_begun, dot_begun, actuals_begun, name_term_begun, group_begun, test_begun, then_begun, rest_begun, if_begun, elsif_begun, else_begun, call_begun, project_begun, not_begun, bindings_begun, bound_begun, binder_begun, bare_begun, bare_binder_begun, let_begun, in_begun, prefixed_begun, compared_begun, term_begun, compares_begun, compared_prefixed_begun, alone_begun, joined_begun, name_type_begun, pred_begun, base_begun, brace_begun, brace_id_begun, sub_begun, domain_begun, range_begun, item_first}
+use Rattle.pvs_parser.proofs.HaltsBegins.{Completes, Begun, TermBegun, StartBegun, ListBegun, CondBegun, completed, some_term, some_operand, some_chain, some_expr, some_otherwise, some_type, some_item, some_list, expression_begun, actual_begun, type_actual_begun, component_begun, named_component_begun, typed_variable_begun, typed_part_begun, typed_value_begun, part_begun, value_begun, one_begun, more_begun, list_of, name_begun, instance_begun, dot_begun, actuals_begun, name_term_begun, group_begun, test_begun, then_begun, rest_begun, if_begun, elsif_begun, else_begun, call_begun, project_begun, not_begun, bindings_begun, bound_begun, binder_begun, bare_begun, bare_binder_begun, let_begun, in_begun, prefixed_begun, compared_begun, term_begun, compares_begun, compared_prefixed_begun, alone_begun, joined_begun, name_type_begun, pred_begun, base_begun, brace_begun, brace_id_begun, sub_begun, domain_begun, range_begun, item_first}
 
 -- where what is read deeper stops, in fewer tokens than so many
 pub record Halting (go : Go) (a : ℕ) : Type 0 where

@@ -1,5 +1,5 @@
 -- Whole expressions, types and framed lists of a text: where their reading stops, the tokens before the stop can be completed.
-use Rattle.std.proofs.Common.{◌≡◌, ◌<◌, ◌⊎◌, inl, inr, ℕ, List, [], ◌∷◌, ◌++◌, length, Some, None, Ok, Err, refl, sym, subst}
+use Rattle.std.proofs.Common.{◌≡◌, ◌<◌, ◌⊎◌, inl, inr, ℕ, List, [], length, Ok, Err, refl, subst}
 use Rattle.pvs_parser.specs.declared.failure.Stop.{Stop}
 use Rattle.pvs_parser.specs.declared.nesting.Nesting.{Nesting}
 use Rattle.pvs_parser.specs.declared.start.Start.{Start}
@@ -9,9 +9,9 @@ use Rattle.pvs_parser.specs.declared.terminal.TerminalKind.{TerminalKind}
 use Rattle.pvs_parser.specs.Language.{Limit, Tokens, IsBelow, HasRoom, level, Form, Item, ItemTree, list, type_, inside}
 use Rattle.pvs_parser.specs.Descent.{Go, ◌>>=◌, expect, deeper, list_with, framed_with, reader}
 use Rattle.pvs_parser.proofs.DescentSound.{sound_reader, reader_limit}
-use Rattle.pvs_parser.proofs.Halts.{Stops, Halts, Wider, Place, first, deep, room_then, room_else, weaken}
+use Rattle.pvs_parser.proofs.Halts.{Stops, Halts, Wider, Place, first, deep, room_else, weaken}
 use Rattle.pvs_parser.proofs.HaltsBegins.{Completes, Begun, StartBegun, FramedBegun, framed_begun, some_list}
-use Rattle.pvs_parser.proofs.HaltsDescent.{Halting, reader_halting, list_with_stops, inside_stops, framed_stops}
+use Rattle.pvs_parser.proofs.HaltsDescent.{reader_halting, list_with_stops, inside_stops, framed_stops}
 
 -- ---- as steps of the proof of a larger form
 

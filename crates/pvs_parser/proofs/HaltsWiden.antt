@@ -1,7 +1,6 @@
 -- What is derived within a limit is derived within a wider one.
 use Rattle.std.proofs.Common.{length}
 use Rattle.pvs_parser.specs.declared.nesting.Nesting.{Nesting}
-use Rattle.pvs_parser.specs.declared.terminal.Connective.TheVariants as connective
 use Rattle.pvs_parser.specs.Language.{Limit, Tokens, Derives, Plain, Form, Item, Nonterminal, form, item, list, name, inst, type_, Tree, level, held, cleared, inside, marked, before_call, tighter, whole}
 use Rattle.pvs_parser.proofs.Halts.{Wider}
 
