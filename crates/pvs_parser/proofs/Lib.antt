@@ -26,3 +26,8 @@ pub mod ScriptSpans
 pub mod Cuts
 pub mod Locality
 pub mod UnitLocality
+pub mod Halts
+pub mod HaltsWiden
+pub mod HaltsBegins
+pub mod HaltsDescent
+pub mod HaltsWholes
