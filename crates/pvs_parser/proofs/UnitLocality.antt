@@ -503,8 +503,3 @@ theory_goes cut a b p text = bind_of cut three two _ _ _ _ (heading_goes cut a b
 
 -- ---- proofs
 
--- an open parenthesis
-open_goes : (cut : Cut) (a b : Limit) → Paired cut a b → (n : ℕ) (mode : Mode) (m : ℕ) (o p : Answer (Word × Tokens)) (ts us : Tokens) → Took cut mode m ts us → Goes cut two mode m o p
-    → Goes cut two mode m (if is_below a n then o else too_deep ts) (if is_below b n then p else too_deep us)
-open_goes cut a b p n mode m o r ts us t h =
-    room_then cut two mode m a b p.rooms (record { kept = n; marks = 0 }) outermost (λ z. o) (λ z. r) ts us t h
