@@ -286,7 +286,7 @@ pub record Rooms (cut : Cut) (a b : Limit) : Type 0 where
   pub tight : (n : ℕ) → is_below a n ≡ false → (cut.excused reason.TooNested ≡ true) ⊎ (is_below b n ≡ false)
 
 -- the token before these nests too deep in both readings, or it is excused
-deep : {Y : Type 0} (cut : Cut) (u : Shape Y) (mode : Mode) (n : ℕ) (ts us : Tokens) (p : Answer Y) → Took cut mode n ts us → (cut.excused reason.TooNested ≡ true) ⊎ (p ≡ too_deep us) → Goes cut u mode n (too_deep ts) p
+pub deep : {Y : Type 0} (cut : Cut) (u : Shape Y) (mode : Mode) (n : ℕ) (ts us : Tokens) (p : Answer Y) → Took cut mode n ts us → (cut.excused reason.TooNested ≡ true) ⊎ (p ≡ too_deep us) → Goes cut u mode n (too_deep ts) p
 deep cut u Mode.Past n ts us p h e = omega (arith, h)
 deep cut u Mode.Before n ts us p h (inl e) = inr (inl e)
 deep cut u Mode.Before n ts us p (q, e, e2, le) (inr same) =

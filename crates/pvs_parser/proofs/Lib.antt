@@ -26,6 +26,7 @@ pub mod ScriptSpans
 pub mod Cuts
 pub mod Locality
 pub mod UnitLocality
+pub mod FirstFault
 pub mod Halts
 pub mod HaltsWiden
 pub mod HaltsBegins

@@ -32,7 +32,8 @@ use Rattle.pvs_parser.proofs.Yields.{Yields}
 use Rattle.pvs_parser.proofs.Deeper.{Fore}
 use Rattle.pvs_parser.proofs.Decls.{declaration_sound, assumed_sound}
 use Rattle.pvs_parser.proofs.DeclsRead.{decl_comes, assumed_comes}
-use Rattle.pvs_parser.proofs.Cuts.{Cut, Mode, Meets, Took, Later, later_trans, low_later, low_less, low_more, Low, Shape, two, three, four, Goes, Shrinks, Agrees, Rooms, beyond, bind_later, bind_past, after_later, after_past, done_two, done_three, weaken, raise, heads, stops, pick, expect_then, id_then, room_then, length_cut}
+use Rattle.pvs_parser.proofs.WholeUnits.{IsItem, item_sound, item_some}
+use Rattle.pvs_parser.proofs.Cuts.{Cut, Mode, Meets, Took, Later, later_trans, low_later, low_less, low_more, Low, Shape, two, three, four, Goes, Shrinks, Agrees, Rooms, beyond, bind_later, bind_past, after_later, after_past, done_two, done_three, weaken, raise, deep, heads, stops, pick, expect_then, id_then, room_then, length_cut}
 use Rattle.pvs_parser.proofs.Locality.{Paired, Lists, Items, crowded_past, list_past, list_goes, raise_to, start_enough, id_stops, crowded_goes, whole_expr, whole_type, whole_framed, Fits, fits_less, fits_later, Turns, turns_less, turns_later, no_turn}
 
 -- a function of tokens that follows another one
@@ -503,3 +504,115 @@ theory_goes cut a b p text = bind_of cut three two _ _ _ _ (heading_goes cut a b
 
 -- ---- proofs
 
+
+-- ---- proofs
+
+-- behind an open parenthesis
+open_goes : {Y : Type 0} (cut : Cut) (u : Shape Y) (a b : Limit) → Rooms cut a b → (n : ℕ) (mode : Mode) (m : ℕ) (o p : Answer Y) (ts us : Tokens) → Took cut mode m ts us → Goes cut u mode m o p
+    → Goes cut u mode m (if is_below a n then o else too_deep ts) (if is_below b n then p else too_deep us)
+open_goes cut u a b rooms n mode m o p ts us t h = one (is_below a n) (is_below b n) (rooms.wider n) (rooms.tight n) where
+  one : (x y : Bool) → (x ≡ true → y ≡ true) → (x ≡ false → (cut.excused reason.TooNested ≡ true) ⊎ (y ≡ false)) → Goes cut u mode m (if x then o else too_deep ts) (if y then p else too_deep us)
+  one true y w e = subst (λ z. Goes cut u mode m o (if z then p else too_deep us)) (sym (w refl)) h
+  one false y w e = deep cut u mode m ts us _ t (other (e refl)) where
+    other : (cut.excused reason.TooNested ≡ true) ⊎ (y ≡ false) → (cut.excused reason.TooNested ≡ true) ⊎ ((if y then p else too_deep us) ≡ too_deep us)
+    other (inl e) = inl e
+    other (inr e) = inr (ap (λ z. if z then p else too_deep us) e)
+
+balanced_of_past : (cut : Cut) (a : Limit) (n : ℕ) (t : Terminal) (ts : Tokens) (go : ℕ → Answer (Word × Tokens)) → length ts < length cut.here → ((i : ℕ) → Shrinks cut two (go i)) → (k : TerminalKind) → Shrinks cut two (balanced_of a n t ts go k)
+balanced_of_past cut a n t ts go h g kind.Open = one (is_below a (suc n)) where
+  one : (x : Bool) → Shrinks cut two (if x then go (suc n) else too_deep ts)
+  one true = g (suc n)
+  one false = omega (arith, h)
+balanced_of_past cut a zero t ts go h g kind.Close = omega (arith, h)
+balanced_of_past cut a (suc n) t ts go h g kind.Close = g n
+balanced_of_past cut a n t ts go h g _ = g n
+
+balanced_past : (cut : Cut) (a : Limit) (ts : Tokens) (n : ℕ) → length ts ≤ length cut.here → Shrinks cut two (balanced a n ts)
+unfolding balanced
+balanced_past cut a [] n h = h
+balanced_past cut a (t ∷ ts) n h = balanced_of_past cut a n t ts (λ i. balanced a i ts) (omega (arith, h)) (λ i. balanced_past cut a ts i (omega (arith, h))) t.kind
+
+balanced_of_goes : (cut : Cut) (a b : Limit) → Rooms cut a b → (n m : ℕ) (t : Terminal) (q : Tokens) → length q ≤ m → (go other : ℕ → Answer (Word × Tokens)) → ((i : ℕ) → Agrees cut two m (go i) (other i)) → (k : TerminalKind)
+    → Agrees cut two m (balanced_of a n t (q ++ cut.here) go k) (balanced_of b n t (q ++ cut.there) other k)
+balanced_of_goes cut a b rooms n m t q le go other g kind.Open = open_goes cut two a b rooms (suc n) Mode.Before m (go (suc n)) (other (suc n)) (q ++ cut.here) (q ++ cut.there) (q, refl, refl, le) (g (suc n))
+balanced_of_goes cut a b rooms zero m t q le go other g kind.Close = done_two cut Mode.Before m t.word (q ++ cut.here) (q ++ cut.there) (q, refl, refl, le)
+balanced_of_goes cut a b rooms (suc n) m t q le go other g kind.Close = g n
+balanced_of_goes cut a b rooms n m t q le go other g _ = g n
+
+balanced_before : (cut : Cut) (a b : Limit) → Rooms cut a b → (q : Tokens) (n m : ℕ) → length q ≤ m → Agrees cut two m (balanced a n (q ++ cut.here)) (balanced b n (q ++ cut.there))
+unfolding balanced
+balanced_before cut a b rooms [] n m le = beyond cut two m _ _ (balanced_past cut a cut.here n (omega arith))
+balanced_before cut a b rooms (t ∷ q) n m le =
+    balanced_of_goes cut a b rooms n m t q (omega (arith, le)) (λ i. balanced a i (q ++ cut.here)) (λ i. balanced b i (q ++ cut.there)) (λ i. balanced_before cut a b rooms q i m (omega (arith, le))) t.kind
+
+balanced_goes : (cut : Cut) (a b : Limit) → Rooms cut a b → (n : ℕ) → Follows cut two (balanced a n) (balanced b n)
+balanced_goes cut a b rooms n Mode.Past m ts us i = balanced_past cut a ts n i
+balanced_goes cut a b rooms n Mode.Before m ts us i = at_front cut two m m (balanced a n) (balanced b n) ts us i (λ q le. balanced_before cut a b rooms q n m le)
+
+-- what is open behind a parenthesis
+abbrev script_of : Limit → Terminal → Tokens → Answer (Word × Word × Tokens)
+script_of limit t us = balanced limit 0 us >>= λ p. Ok (t.word, p.0, p.1)
+
+abbrev script_in : Limit → Terminal → Tokens → Answer (Word × Word × Tokens)
+script_in limit t us = if is_below limit 0 then script_of limit t us else too_deep us
+
+script_goes : (cut : Cut) (a b : Limit) → Rooms cut a b → Follows cut three (script a) (script b)
+script_goes cut a b rooms mode m ts us h =
+    heads cut three mode m (λ z. script a z) (λ z. script b z) ts us h (omega arith) (λ c lc t vs ws i tk less. one c t vs ws i tk (same_kind t.kind kind.Open)) where
+  good : (c : Mode) (t : Terminal) (vs ws : Tokens) → Took cut c (m - 1) vs ws → Goes cut three c (m - 1) (script_of a t vs) (script_of b t ws)
+  good c t vs ws tk = bind_of cut two three _ _ _ _ (balanced_goes cut a b rooms 0) (λ x mode n us i. done_three cut mode n t.word x.0 x.1 us i) c (m - 1) vs ws (weaken cut c (m - 1) vs ws tk)
+  one : (c : Mode) (t : Terminal) (vs ws : Tokens) → Meets cut c m (t ∷ vs) (t ∷ ws) → Took cut c (m - 1) vs ws → (x : Bool)
+      → Goes cut three c m ((if x then Ok vs else stop (t ∷ vs)) >>= λ us. script_in a t us) ((if x then Ok ws else stop (t ∷ ws)) >>= λ us. script_in b t us)
+  one c t vs ws i tk true = raise cut three c m _ _ (open_goes cut three a b rooms 0 c (m - 1) (script_of a t vs) (script_of b t ws) vs ws tk (good c t vs ws tk))
+  one c t vs ws i tk false = stops cut three c m (t ∷ vs) (t ∷ ws) i
+
+target_goes : (cut : Cut) → Follows cut three target target
+target_goes cut = expect_of cut three kind.Proof _ _ (took cut three _ _ (id_of cut three _ _ (λ w. took cut three _ _ (expect_of cut three kind.Dot _ _ (took cut three _ _ (id_of cut three _ _ (λ v mode m ts us t. done_three cut mode m w v ts us (weaken cut mode m ts us t))))))))
+
+proof_goes : (cut : Cut) (a b : Limit) → Paired cut a b → Follows cut two (proof a) (proof b)
+proof_goes cut a b p = bind_of cut three two _ _ _ _ (target_goes cut) (λ x mode m us i.
+    bind_of cut three two _ _ _ _ (script_goes cut a b p.rooms) (λ y mode m us i.
+    expect_of cut two kind.Close _ _ (λ mode m vs ws t. done_two cut mode m (record { theory = x.0; formula = x.1; start = y.0.start; end = y.1.end; pos = y.0.pos }) vs ws (weaken cut mode m vs ws t)) mode m y.2 us i) mode m x.2 us i)
+
+-- ---- units
+
+item_goes : (cut : Cut) (a b : Limit) → Paired cut a b → (text : List ℕ) → Follows cut two (one_item a text) (one_item b text)
+item_goes cut a b p text = after_of cut two kind.Open _ _ (λ z. theory a text z >>= λ p. Ok (item.Theory p.0, p.1)) (λ z. theory b text z >>= λ p. Ok (item.Theory p.0, p.1))
+    (took cut two _ _ (bind_of cut two two _ _ _ _ (proof_goes cut a b p) (λ x mode m us i. done_two cut mode m (item.Proof x.0) x.1 us i)))
+    (bind_of cut two two _ _ _ _ (theory_goes cut a b p text) (λ x mode m us i. done_two cut mode m (item.Theory x.0) x.1 us i))
+
+-- an answer with no tokens behind it
+abbrev pub alone : {X : Type 0} → Shape X
+alone = record { rest = λ x. []; put = λ x us. x }
+
+items_past : (cut : Cut) (a b : Limit) → Paired cut a b → (text : List ℕ) (k : ℕ) (found : List Item) (ts : Tokens) → length ts ≤ length cut.here → Shrinks cut alone (items_from a text k found ts)
+unfolding items_from
+items_past cut a b p text k found [] h = h
+items_past cut a b p text zero found (t ∷ ts) h = h
+items_past cut a b p text (suc k) found (t ∷ ts) h =
+    bind_past cut two alone (one_item a text (t ∷ ts)) _ (item_goes cut a b p text Mode.Past 0 (t ∷ ts) (t ∷ ts) h) (λ x hx. items_past cut a b p text k (found ++ x.0 ∷ []) x.1 hx)
+
+items_before : (cut : Cut) (a b : Limit) → Paired cut a b → (text : List ℕ) (k j m : ℕ) → Turns cut Mode.Before k j m → (found : List Item) (q : Tokens) → length q ≤ m
+    → Agrees cut alone m (items_from a text k found (q ++ cut.here)) (items_from b text j found (q ++ cut.there))
+unfolding items_from
+items_before cut a b p text k j m t found [] le = beyond cut alone m _ _ (items_past cut a b p text k found cut.here (omega arith))
+items_before cut a b p text zero j m t found (v ∷ q) le = absurd (omega (arith, t.0, le))
+items_before cut a b p text (suc k) zero m t found (v ∷ q) le = absurd (omega (arith, t.1, le))
+items_before cut a b p text (suc k) (suc j) m t found (v ∷ q) le =
+    turn cut alone m (suc (length q)) (one_item a text (v ∷ (q ++ cut.here))) (one_item b text (v ∷ (q ++ cut.there)))
+    (λ x e. let lt = fore_shorter (one_item a text) (IsItem a text) (item_sound a text) (item_some a text) (v ∷ (q ++ cut.here)) x e in omega (arith, lt, length_cut q cut.here))
+    (item_goes cut a b p text Mode.Before m (v ∷ (q ++ cut.here)) (v ∷ (q ++ cut.there)) (v ∷ q, refl, refl, le)) _ _
+    (λ x hx. items_past cut a b p text k (found ++ x.0 ∷ []) x.1 hx)
+    (λ x w r lt. raise_to cut alone (m - 1) m (omega arith) _ _ (items_before cut a b p text k j (m - 1) (fits_less Mode.Before cut.here m k (omega (arith, le)) t.0, fits_less Mode.Before cut.there m j (omega (arith, le)) t.1) (found ++ x ∷ []) (w ∷ r) (omega (arith, lt, le))))
+
+pub unit_goes : (cut : Cut) (a b : Limit) → Paired cut a b → (text : List ℕ) (q : Tokens) → Agrees cut alone (length q) (unit a text (q ++ cut.here)) (unit b text (q ++ cut.there))
+unit_goes cut a b p text q = follow (items_before cut a b p text (length (q ++ cut.here)) (length (q ++ cut.there)) (length q) (omega (arith, length_cut q cut.here), omega (arith, length_cut q cut.there)) [] q (omega arith)) where
+  made : List Item → Answer tree.Unit
+  made is = Ok (record { items = is })
+  of : (o r : Answer (List Item)) → Agrees cut alone (length q) o r → Agrees cut alone (length q) (o >>= made) (r >>= made)
+  of (Ok x) r h = inl (omega arith)
+  of (Err e) r (inl h) = inl h
+  of (Err e) r (inr (inl h)) = inr (inl h)
+  of (Err e) r (inr (inr h)) = inr (inr (h.0, h.1, ap (λ z. z >>= made) h.2))
+  follow : Agrees cut alone (length q) (items_from a text (length (q ++ cut.here)) [] (q ++ cut.here)) (items_from b text (length (q ++ cut.there)) [] (q ++ cut.there)) → Agrees cut alone (length q) (unit a text (q ++ cut.here)) (unit b text (q ++ cut.there))
+  follow h = of (items_from a text (length (q ++ cut.here)) [] (q ++ cut.here)) (items_from b text (length (q ++ cut.there)) [] (q ++ cut.there)) h
