@@ -163,10 +163,21 @@ pub record Full (limit : Limit) (K : Limit → Tokens → Type 0) (before : Toke
   pub is : Is kind.Comma comma
   pub begun : K limit front
 
--- A token that is too much for the limit is one with which the tokens before it can be completed without a limit.
+abbrev is_comma : TerminalKind → Bool
+is_comma kind.Comma = true
+is_comma _ = false
+
+abbrev pub NoComma : Terminal → Type 0
+NoComma t = Is kind.Comma t → ⊥
+
+-- a terminal of another kind is no comma
+pub no_comma : {k : TerminalKind} (t : Terminal) → is_comma k ≡ false → Is k t → NoComma t
+no_comma {k = k} t other is comma = let e : is_comma k ≡ true = ap is_comma (sym is ∙ comma) in cc
+
+-- A token that is too much for the limit is no comma, and one with which the tokens before it can be completed without a limit.
 abbrev pub Why : (Limit → Tokens → Type 0) → Tokens → Tokens → Reason → Type 0
 Why K before rest reason.Unexpected = Unit {0}
-Why K before rest reason.TooNested = (t : Terminal) × (more : Tokens) × (rest ≡ t ∷ more) × K None (before ++ t ∷ [])
+Why K before rest reason.TooNested = (t : Terminal) × (more : Tokens) × (rest ≡ t ∷ more) × NoComma t × K None (before ++ t ∷ [])
 Why K before rest reason.WrongEnd = ⊥
 
 -- K w p: the tokens p can be completed within the limit w. Where reading stopped, those before the stop can be.
@@ -190,15 +201,15 @@ unexpected {limit = limit} {before = before} {rest = rest} s k = record {
   why = tt;
 }
 
-pub nested : {limit : Limit} {K : Limit → Tokens → Type 0} {ts before us : Tokens} {t : Terminal} → Splits ts before (t ∷ us) → ((w : Limit) → Wider limit w → K w before) → K None (before ++ t ∷ []) → Halts limit K ts (deep us)
-nested {limit = limit} {before = before} {us = us} {t = t} s k h = record {
+pub nested : {limit : Limit} {K : Limit → Tokens → Type 0} {ts before us : Tokens} {t : Terminal} → Splits ts before (t ∷ us) → NoComma t → ((w : Limit) → Wider limit w → K w before) → K None (before ++ t ∷ []) → Halts limit K ts (deep us)
+nested {limit = limit} {before = before} {us = us} {t = t} s other k h = record {
   before = before;
   rest = t ∷ us;
   split = s;
   left = omega arith;
   begun = k None no_limit;
   within = inl (k limit same_limit);
-  why = (t, us, refl, h);
+  why = (t, us, refl, other, h);
 }
 
 -- ---- places in tokens
@@ -223,7 +234,7 @@ upto {p = p} {rest = rest} {f = f} g s = record { same = g.same ∙ ap f s.same 
 -- what could be completed at a place is completed behind what stands before it
 why_inner : (G K : Limit → Tokens → Type 0) (f : Tokens → Tokens) → ((p q : Tokens) → f (p ++ q) ≡ f p ++ q) → ((p : Tokens) → G None p → K None (f p)) → (before rest : Tokens) (r : Reason) → Why G before rest r → Why K (f before) rest r
 why_inner G K f through k before rest reason.Unexpected y = tt
-why_inner G K f through k before rest reason.TooNested y = (y.0, y.1, y.2, subst (λ z. K None z) (through before (y.0 ∷ [])) (k (before ++ y.0 ∷ []) y.3))
+why_inner G K f through k before rest reason.TooNested y = (y.0, y.1, y.2, y.3, subst (λ z. K None z) (through before (y.0 ∷ [])) (k (before ++ y.0 ∷ []) y.4))
 why_inner G K f through k before rest reason.WrongEnd y = y
 
 within_inner : {limit : Limit} {G K : Limit → Tokens → Type 0} (f : Tokens → Tokens) → ((p q : Tokens) → f (p ++ q) ≡ f p ++ q) → ((p : Tokens) → G limit p → K limit (f p)) → (before : Tokens) → G limit before ⊎ Full limit G before → K limit (f before) ⊎ Full limit K (f before)
@@ -263,7 +274,7 @@ Known K ts w p = K w p × ((rest : Tokens) × Splits ts p rest)
 
 why_known : (K : Limit → Tokens → Type 0) (ts before rest : Tokens) (r : Reason) → Splits ts before rest → Why K before rest r → Why (λ w p. Known K ts w p) before rest r
 why_known K ts before rest reason.Unexpected s y = tt
-why_known K ts before rest reason.TooNested s y = (y.0, y.1, y.2, (y.3, (y.1, glue s (alone y.2))))
+why_known K ts before rest reason.TooNested s y = (y.0, y.1, y.2, y.3, (y.4, (y.1, glue s (alone y.2))))
 why_known K ts before rest reason.WrongEnd s y = y
 
 within_known : {limit : Limit} {K : Limit → Tokens → Type 0} (ts before rest : Tokens) → Splits ts before rest → K limit before ⊎ Full limit K before → Known K ts limit before ⊎ Full limit (λ w p. Known K ts w p) before

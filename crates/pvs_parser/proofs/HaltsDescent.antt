@@ -27,7 +27,7 @@ use Rattle.pvs_parser.proofs.Follows.{pull_of, reach}
 use Rattle.pvs_parser.proofs.Gets.{unglue}
 use Rattle.pvs_parser.proofs.DescentSteps.{Comes, after_yields, labels_yields, compares_yields, AtMost, Splits, glue, put, alone, nothing}
 use Rattle.pvs_parser.proofs.DescentSound.{Formed, Front, Sound, expression_sound, item_sound, list_with_sound, framed_sound, condition_sound, first_sound, call_sound, project_sound, term_sound, operand_sound, between_sound, base_sound, bound_stops, IsPrefix, is_prefix_kind, splits_shorter, moved, sound_reader}
-use Rattle.pvs_parser.proofs.Halts.{Stops, goes, stopped, bind, then_, cases, deep, expect_then, number_stops, id_then, room_then, call_mark_then, begins_then, Wider, any, no_limit, Why, Halts, unexpected, nested, Place, first, behind, past, upto, onto, same_place, into, known}
+use Rattle.pvs_parser.proofs.Halts.{Stops, goes, stopped, bind, then_, cases, deep, expect_then, number_stops, id_then, room_then, call_mark_then, begins_then, Wider, any, no_limit, NoComma, no_comma, Why, Halts, unexpected, nested, Place, first, behind, past, upto, onto, same_place, into, known}
 use Rattle.pvs_parser.proofs.HaltsWiden.{wider}
 use Rattle.pvs_parser.proofs.HaltsBegins.{Completes, Begun, TermBegun, StartBegun, ListBegun, CondBegun, completed, some_term, some_operand, some_chain, some_expr, some_otherwise, some_type, some_item, some_list, expression_begun, actual_begun, type_actual_begun, component_begun, named_component_begun, typed_variable_begun, typed_part_begun, typed_value_begun, part_begun, value_begun, one_begun, more_begun, list_of, name_begun, instance_begun, dot_begun, actuals_begun, name_term_begun, group_begun, test_begun, then_begun, rest_begun, if_begun, elsif_begun, else_begun, call_begun, project_begun, not_begun, bindings_begun, bound_begun, binder_begun, bare_begun, bare_binder_begun, let_begun, in_begun, prefixed_begun, compared_begun, term_begun, compares_begun, compared_prefixed_begun, alone_begun, joined_begun, name_type_begun, pred_begun, base_begun, brace_begun, brace_id_begun, sub_begun, domain_begun, range_begun, item_first}
 
@@ -97,12 +97,25 @@ comma_halts i k ts vs rest us s c d lt r y = record {
   why = y;
 }
 
+starts_comma : (i : Item) → starts_item i kind.Comma ≡ false
+starts_comma Item.Expression = refl
+starts_comma Item.Parameter = refl
+starts_comma Item.Component = refl
+starts_comma Item.Variable = refl
+starts_comma Item.BareVariable = refl
+starts_comma Item.Definition = refl
+
+-- no item begins with a comma
+starts_no_comma : (i : Item) (t : Terminal) → starts_item i t.kind ≡ true → NoComma t
+starts_no_comma i t is comma = let e : starts_item i t.kind ≡ false = ap (starts_item i) comma ∙ starts_comma i in cc
+
 crowded_one : {B : Type 0} {limit : Limit} (i : Item) (k : ℕ) {l j : Nesting} {x : ItemTree i} (ts vs rest us : Tokens) (t : Terminal) → Splits ts vs rest → (c : Comes kind.Comma rest (t ∷ us)) → Derives limit (item i) l vs x j → IsBelow limit k
     → (b : Bool) → starts_item i t.kind ≡ b → Stops {A = B} (if b then too_many (t ∷ us) else stop (t ∷ us)) (Halts limit (λ w p. ListBegun w i k l p) ts)
 crowded_one i k {l = l} {j = j} ts vs rest us t s c d lt true is = stopped (comma_halts i k ts vs rest (t ∷ us) s c d lt reason.TooNested (
   t,
   us,
   refl,
+  starts_no_comma i t is,
   subst (λ z. ListBegun None i k l z) (sym (append_assoc vs (c.0 ∷ []) (t ∷ []))) (more_begun i c.0 k (wider no_limit d) c.2 (one_begun i (suc k) (any 0) (item_first i (cleared j) t is))),
 ))
 crowded_one i k ts vs rest us t s c d lt false is = stopped (comma_halts i k ts vs rest (t ∷ us) s c d lt reason.Unexpected tt)
@@ -164,6 +177,18 @@ compared_prefix : {w : Limit} {l k : Nesting} {vs : Tokens} {x : Expr} {o : Infi
     → Begun w (λ e. Form.Operand e) l (vs ++ t ∷ p)
 compared_prefix {w = w} {l = l} {vs = vs} t d is lt p (inl e) = subst (λ z. Begun w (λ e. Form.Operand e) l (vs ++ t ∷ z)) (sym e) (compares_begun t d is lt some_term)
 compared_prefix t d is lt p (inr g) = compared_prefixed_begun t d is lt g
+
+binder_no_comma : {b : BinderWord} (t : Terminal) → binder_word t.kind ≡ Some b → NoComma t
+binder_no_comma t is comma = let e : binder_word t.kind ≡ None = ap binder_word comma in cc
+
+comparison_no_comma : {o : InfixWord} (t : Terminal) → comparison t.kind ≡ Some o → NoComma t
+comparison_no_comma t is comma = let e : comparison t.kind ≡ None = ap comparison comma in cc
+
+sign_no_comma : (c : Connective) (t : Terminal) → Is (sign c) t → NoComma t
+sign_no_comma connective.Iff t is = no_comma t refl is
+sign_no_comma connective.Implies t is = no_comma t refl is
+sign_no_comma connective.Or t is = no_comma t refl is
+sign_no_comma connective.And t is = no_comma t refl is
 
 -- ---- what stands in braces
 
@@ -246,7 +271,7 @@ module _ (go : Go) (sound : Sound go) (a : ℕ) (halting : Halting go a) where
   name_after_stops l t us is small = cases
       (λ vs b. let c = (after_yields kind.OpenBracket us).holds vs b in
       bind (framed_sound go sound Item.Parameter kind.CloseBracket l vs)
-      (framed_stops Item.Parameter kind.CloseBracket l (behind refl (behind c.1 first)) (nested (moved (alone refl) c.1) (λ w wide. name_begun is) (actuals_begun is c.2 (any 0) (some_list Item.Parameter)))
+      (framed_stops Item.Parameter kind.CloseBracket l (behind refl (behind c.1 first)) (nested (moved (alone refl) c.1) (no_comma c.0 refl c.2) (λ w wide. name_begun is) (actuals_begun is c.2 (any 0) (some_list Item.Parameter)))
       (λ lt w wide p g. actuals_begun is c.2 (wide.below (level l) lt) g) (next a c.1 small)) (λ p f.
       expect_then kind.Dot p.1 _ (unexpected (put refl (put c.1 f.3)) (λ w wide. instance_begun (Derives.inst_with l f.2 f.0 p.0 t c.0 f.1 is c.2 (wide.below (level l) f.4) (wider wide f.5) f.6))) (λ ws d.
       qualified_stops l (t ∷ us) (t ∷ c.0 ∷ (f.0 ++ f.1 ∷ [])) ws t.word p.0 d.0 (moved (put refl (put c.1 f.3)) d.1)
@@ -276,9 +301,9 @@ module _ (go : Go) (sound : Sound go) (a : ℕ) (halting : Halting go a) where
   first_of_stops l t ts kind.Id is small = then_ (into (name_after_stops l t ts (ap is_id is) small) first (λ w wide p g. name_term_begun g)) (λ p. goes)
   first_of_stops l t ts kind.Proof is small = then_ (into (name_after_stops l t ts (ap is_id is) small) first (λ w wide p g. name_term_begun g)) (λ p. goes)
   first_of_stops l t ts kind.Open is small =
-      then_ (framed_stops Item.Expression kind.Close l (behind refl first) (nested nothing (λ w wide. some_term) (group_begun is (any 0) (some_list Item.Expression))) (λ lt w wide p g. group_begun is (wide.below (level l) lt) g) small) (λ p. goes)
+      then_ (framed_stops Item.Expression kind.Close l (behind refl first) (nested nothing (no_comma t refl is) (λ w wide. some_term) (group_begun is (any 0) (some_list Item.Expression))) (λ lt w wide p g. group_begun is (wide.below (level l) lt) g) small) (λ p. goes)
   first_of_stops l t ts kind.If is small =
-      room_then go.limit l (inside l) ts _ (nested nothing (λ w wide. some_term) (if_begun is (any 0) (test_begun some_expr))) (λ lt.
+      room_then go.limit l (inside l) ts _ (nested nothing (no_comma t refl is) (λ w wide. some_term) (if_begun is (any 0) (test_begun some_expr))) (λ lt.
       then_ (into (cond_stops t.word (inside l) ts small) (behind refl first) (λ w wide p g. if_begun is (wide.below (level l) lt) g)) (λ p. goes))
   first_of_stops l t ts _ is small = stopped (unexpected nothing (λ w wide. some_term))
 
@@ -290,14 +315,14 @@ module _ (go : Go) (sound : Sound go) (a : ℕ) (halting : Halting go a) where
   call_stops : (b : Bool) (x : Expr) (l0 l : Nesting) (all vs ts us : Tokens) → Splits all vs ts → Derives go.limit (form (Form.Term b)) l0 vs x l → Comes kind.Open ts us → length us < a
       → Stops (call_with go b x l us) (Halts go.limit (λ w p. TermBegun w l0 p) all)
   call_stops b x l0 l all vs ts us s d c small =
-      let too_deep : Halts go.limit (λ w p. TermBegun w l0 p) all (deep us) = nested (moved s c.1) (λ w wide. (b, completed (wider wide d))) (call_begun c.0 (wider no_limit d) c.2 (any 0) (some_list Item.Expression)) in
+      let too_deep : Halts go.limit (λ w p. TermBegun w l0 p) all (deep us) = nested (moved s c.1) (no_comma c.0 refl c.2) (λ w wide. (b, completed (wider wide d))) (call_begun c.0 (wider no_limit d) c.2 (any 0) (some_list Item.Expression)) in
       call_mark_then go.limit b l us _ _ too_deep (then_
       (framed_stops Item.Expression kind.Close (before_call b l) (past s (behind c.1 first)) too_deep (λ lt w wide p g. call_begun c.0 (wider wide d) c.2 (wide.below (level (before_call b l)) lt) g) small) (λ p. goes))
 
   project_stops : (b : Bool) (x : Expr) (l0 l : Nesting) (all vs ts us : Tokens) → Splits all vs ts → Derives go.limit (form (Form.Term b)) l0 vs x l → Comes kind.Backquote ts us
       → Stops (project go.limit x l us) (Halts go.limit (λ w p. TermBegun w l0 p) all)
   project_stops b x l0 l all vs ts us s d c =
-      room_then go.limit l (marked l) us _ (nested (moved s c.1) (λ w wide. (b, completed (wider wide d))) (project_begun c.0 (wider no_limit d) c.2 (any 0))) (λ lt.
+      room_then go.limit l (marked l) us _ (nested (moved s c.1) (no_comma c.0 refl c.2) (λ w wide. (b, completed (wider wide d))) (project_begun c.0 (wider no_limit d) c.2 (any 0))) (λ lt.
       then_ (number_stops us (unexpected (glue s (alone c.1)) (λ w wide. project_begun c.0 (wider wide d) c.2 (wide.below (level l) lt)))) (λ p. goes))
 
   term_from_stops : (n : ℕ) (b : Bool) (x : Expr) (l0 l : Nesting) (all vs ts : Tokens) → Splits all vs ts → Derives go.limit (form (Form.Term b)) l0 vs x l → length ts ≤ a
@@ -328,12 +353,12 @@ module _ (go : Go) (sound : Sound go) (a : ℕ) (halting : Halting go a) where
 
   binder_stops : (b : BinderWord) (l : Nesting) (t : Terminal) (us : Tokens) → binder_word t.kind ≡ Some b → length us < a → Stops (binder_with go b t.word l us) (Halts go.limit (λ w p. PrefixBegun w l p) (t ∷ us))
   binder_stops b l t us is small =
-      room_then go.limit l (held l) us _ (nested nothing (λ w wide. inl refl) (inr (bare_begun is (any 0) (some_list Item.BareVariable)))) (λ lt. cases
+      room_then go.limit l (held l) us _ (nested nothing (binder_no_comma t is) (λ w wide. inl refl) (inr (bare_begun is (any 0) (some_list Item.BareVariable)))) (λ lt. cases
       (λ vs e. let c = (after_yields kind.Open us).holds vs e in
       let less : length vs < a = next a c.1 small in
       bind (framed_sound go sound Item.Variable kind.Close (held l) vs)
       (framed_stops Item.Variable kind.Close (held l) (behind refl (behind c.1 first))
-      (nested (moved (alone refl) c.1) (λ w wide. inr (bare_begun is (wide.below (level l) lt) (some_list Item.BareVariable))) (inr (bindings_begun is (any 0) c.2 (any 0) (some_list Item.Variable))))
+      (nested (moved (alone refl) c.1) (no_comma c.0 refl c.2) (λ w wide. inr (bare_begun is (wide.below (level l) lt) (some_list Item.BareVariable))) (inr (bindings_begun is (any 0) c.2 (any 0) (some_list Item.Variable))))
       (λ has w wide p g. inr (bindings_begun is (wide.below (level l) lt) c.2 (wide.below (level (held l)) has) g)) less) (λ p f.
       body_stops p.0 b t.word (held l) (behind refl (behind c.1 (past (unglue f.0 (f.1 ∷ []) f.3) (behind refl first))))
       (λ w wide. inr (bound_begun f.1 is (wide.below (level l) lt) c.2 (wide.below (level (held l)) f.4) (wider wide f.5) f.6))
@@ -346,7 +371,7 @@ module _ (go : Go) (sound : Sound go) (a : ℕ) (halting : Halting go a) where
 
   let_stops : (l : Nesting) (t : Terminal) (us : Tokens) → Is kind.Let t → length us < a → Stops (let_with go t.word l us) (Halts go.limit (λ w p. PrefixBegun w l p) (t ∷ us))
   let_stops l t us is small =
-      room_then go.limit l (held l) us _ (nested nothing (λ w wide. inl refl) (inr (let_begun is (any 0) (some_list Item.Definition)))) (λ lt.
+      room_then go.limit l (held l) us _ (nested nothing (no_comma t refl is) (λ w wide. inl refl) (inr (let_begun is (any 0) (some_list Item.Definition)))) (λ lt.
       bind (list_with_sound go sound Item.Definition (held l) us)
       (into (list_with_stops Item.Definition (below_zero go.limit (level l) lt) (held l) us small) (behind refl first) (λ w wide p g. inr (let_begun is (wide.below (level l) lt) g))) (λ p f.
       expect_then kind.In p.2 _ (unexpected (put refl f.1) (λ w wide. inr (let_begun is (wide.below (level l) lt) (completed (wider wide f.2))))) (λ vs c.
@@ -354,7 +379,7 @@ module _ (go : Go) (sound : Sound go) (a : ℕ) (halting : Halting go a) where
 
   not_stops : (l : Nesting) (t : Terminal) (us : Tokens) → Is kind.Not t → length us < a → Stops (not_with go t.word l us) (Halts go.limit (λ w p. PrefixBegun w l p) (t ∷ us))
   not_stops l t us is small =
-      room_then go.limit l (marked l) us _ (nested nothing (λ w wide. inl refl) (inr (not_begun is (any 0) some_operand))) (λ lt.
+      room_then go.limit l (marked l) us _ (nested nothing (no_comma t refl is) (λ w wide. inl refl) (inr (not_begun is (any 0) some_operand))) (λ lt.
       then_ (into (halting.expr start.Operand (marked l) us small) (behind refl first) (λ w wide p g. inr (not_begun is (wide.below (level l) lt) g))) (λ p. goes))
 
   prefixed_of_stops : (l : Nesting) (t : Terminal) (us : Tokens) (p : Prefix) → IsPrefix t p → length us < a → Stops (prefixed_with go l p t.word us) (Halts go.limit (λ w p. PrefixBegun w l p) (t ∷ us))
@@ -374,7 +399,7 @@ module _ (go : Go) (sound : Sound go) (a : ℕ) (halting : Halting go a) where
   compared_from_stops (suc n) x l0 l all vs ts s d small = cases
       (λ p e. let c = (compares_yields ts).holds p e in
       let less : length p.1 < a = next_le a c.1 small in
-      room_then go.limit l (marked l) p.1 _ (nested (moved s c.1) (λ w wide. compared_begun (completed (wider wide d))) (compares_begun c.0 (wider no_limit d) c.2 (any 0) some_term)) (λ lt. begins_then p.1 _ _
+      room_then go.limit l (marked l) p.1 _ (nested (moved s c.1) (comparison_no_comma c.0 c.2) (λ w wide. compared_begun (completed (wider wide d))) (compares_begun c.0 (wider no_limit d) c.2 (any 0) some_term)) (λ lt. begins_then p.1 _ _
       (λ t us q e is. then_ (into (prefixed_stops (marked l) t us q is (next a e less)) (past s (behind c.1 (same_place e))) (λ w wide q g. compared_prefix c.0 (wider wide d) c.2 (wide.below (level l) lt) q g)) (λ r. goes))
       (bind (term_sound go sound (marked l) p.1) (into (term_stops (marked l) p.1 (fewer_le p.1 a less)) (past s (behind c.1 first)) (λ w wide q g. compares_begun c.0 (wider wide d) c.2 (wide.below (level l) lt) g)) (λ r f.
       compared_from_stops n (expr.Infix p.0 x r.0) l0 r.1 all (vs ++ c.0 ∷ f.1) r.2 (glue s (put c.1 f.2)) (Derives.compares f.0 l0 l r.1 vs f.1 x r.0 p.0 c.0 d c.2 lt f.3) (fewer_le r.2 a (rest a f.2 less))))))
@@ -390,7 +415,7 @@ module _ (go : Go) (sound : Sound go) (a : ℕ) (halting : Halting go a) where
       → (us : Tokens) → Comes (sign c) p.2 us → length p.2 ≤ a
       → Stops {A = Expr × Nesting × Tokens} (mark go.limit p.1 us >>= λ m. go.expr (start.Chain c) m us >>= λ q. Ok (expr.Infix (operator c) p.0 q.0, q.1, q.2)) (Halts go.limit (λ w q. Begun w (λ e. Form.Chain c e) l q) ts)
   chain_sign_stops c l ts p Plain vs s d lt us b small =
-      room_then go.limit p.1 (marked p.1) us _ (nested (moved s b.1) (λ w wide. alone_begun c (Plain, completed (wider wide d))) (joined_begun c b.0 (wider no_limit d) b.2 (any 0) (some_chain c))) (λ has.
+      room_then go.limit p.1 (marked p.1) us _ (nested (moved s b.1) (sign_no_comma c b.0 b.2) (λ w wide. alone_begun c (Plain, completed (wider wide d))) (joined_begun c b.0 (wider no_limit d) b.2 (any 0) (some_chain c))) (λ has.
       then_ (into (halting.expr (start.Chain c) (marked p.1) us (next_le a b.1 small)) (past s (behind b.1 first)) (λ w wide q g. joined_begun c b.0 (wider wide d) b.2 (wide.below (level p.1) has) g)) (λ q. goes))
   chain_sign_stops c l ts p Bound vs s d lt us b small = absurd (bound_stops c p.2 us b.0 lt b.1 b.2)
 
@@ -422,7 +447,7 @@ module _ (go : Go) (sound : Sound go) (a : ℕ) (halting : Halting go a) where
       bind (expression_sound go sound (cleared l) ts) (into (expression_stops (cleared l) ts small) (behind refl first) (λ w wide p g. else_begun is g)) (λ p f.
       expect_then kind.EndIf p.2 _ (unexpected (put refl f.1) (λ w wide. else_begun is (completed (wider wide f.2)))) (λ us b. goes))
   otherwise_of_stops l t ts kind.Elsif is small =
-      room_then go.limit (cleared l) (held (cleared l)) ts _ (nested nothing (λ w wide. some_otherwise) (elsif_begun is (any 0) (test_begun some_expr))) (λ lt.
+      room_then go.limit (cleared l) (held (cleared l)) ts _ (nested nothing (no_comma t refl is) (λ w wide. some_otherwise) (elsif_begun is (any 0) (test_begun some_expr))) (λ lt.
       into (cond_stops t.word (held (cleared l)) ts small) (behind refl first) (λ w wide p g. elsif_begun is (wide.below (level (cleared l)) lt) g))
   otherwise_of_stops l t ts _ is small = stopped (unexpected nothing (λ w wide. some_otherwise))
 
@@ -454,7 +479,7 @@ module _ (go : Go) (sound : Sound go) (a : ℕ) (halting : Halting go a) where
 
   sub_stops : (l : Nesting) (t : Terminal) (ts : Tokens) → Is kind.OpenBrace t → length ts < a → Stops (sub_type_with go l t.word ts) (Halts go.limit (λ w p. Completes w type_ l p) (t ∷ ts))
   sub_stops l t ts is small =
-      room_then go.limit l (inside l) ts _ (nested nothing (λ w wide. some_type) (brace_begun is (any 0))) (λ lt.
+      room_then go.limit l (inside l) ts _ (nested nothing (no_comma t refl is) (λ w wide. some_type) (brace_begun is (any 0))) (λ lt.
       bind (base_sound go sound (inside l) ts) (base_stops l t ts is lt small) (λ p f.
       let place : Place (t ∷ ts) (λ q. t ∷ f.t ∷ f.u ∷ (f.vs ++ f.w ∷ q)) p.3 = behind refl (within_brace f.t f.u f.vs f.w f.split) in
       bind (expression_sound go sound p.2 p.3) (into (expression_stops p.2 p.3 (rest a f.split small)) place (λ w wide q g. sub_begun f.w is (wide.below (level l) lt) f.id f.colon (wider wide f.type) f.bar g)) (λ q g.
@@ -464,12 +489,12 @@ module _ (go : Go) (sound : Sound go) (a : ℕ) (halting : Halting go a) where
   type_of_stops l t ts kind.Id is small = then_ (into (name_after_stops l t ts (ap is_id is) small) first (λ w wide p g. name_type_begun g)) (λ p. goes)
   type_of_stops l t ts kind.Proof is small = then_ (into (name_after_stops l t ts (ap is_id is) small) first (λ w wide p g. name_type_begun g)) (λ p. goes)
   type_of_stops l t ts kind.Open is small =
-      room_then go.limit l (inside l) ts _ (nested nothing (λ w wide. some_type) (pred_begun is (any 0) some_expr)) (λ lt.
+      room_then go.limit l (inside l) ts _ (nested nothing (no_comma t refl is) (λ w wide. some_type) (pred_begun is (any 0) some_expr)) (λ lt.
       bind (expression_sound go sound (inside l) ts) (into (expression_stops (inside l) ts small) (behind refl first) (λ w wide p g. pred_begun is (wide.below (level l) lt) g)) (λ p f.
       expect_then kind.Close p.2 _ (unexpected (put refl f.1) (λ w wide. pred_begun is (wide.below (level l) lt) (completed (wider wide f.2)))) (λ us b. goes)))
   type_of_stops l t ts kind.OpenBrace is small = sub_stops l t ts is small
   type_of_stops l t ts kind.OpenBracket is small =
-      room_then go.limit l (inside l) ts _ (nested nothing (λ w wide. some_type) (domain_begun is (any 0) (some_list Item.Component))) (λ lt.
+      room_then go.limit l (inside l) ts _ (nested nothing (no_comma t refl is) (λ w wide. some_type) (domain_begun is (any 0) (some_list Item.Component))) (λ lt.
       bind (list_with_sound go sound Item.Component (inside l) ts)
       (into (list_with_stops Item.Component (below_zero go.limit (level l) lt) (inside l) ts small) (behind refl first) (λ w wide p g. domain_begun is (wide.below (level l) lt) g)) (λ p f. cases
       (λ us e. let c = (after_yields kind.Arrow p.2).holds us e in fun_stops l p.1 t c.0 ts f.0 p.0 p.2 us f.1 is lt f.2 c.1 c.2 (next a c.1 (rest a f.1 small)))
