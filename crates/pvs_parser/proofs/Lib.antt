@@ -27,6 +27,8 @@ pub mod Cuts
 pub mod Locality
 pub mod UnitLocality
 pub mod FirstFault
+pub mod ExprFault
+pub mod UnitFault
 pub mod Halts
 pub mod HaltsWiden
 pub mod HaltsBegins

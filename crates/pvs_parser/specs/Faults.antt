@@ -1,6 +1,7 @@
 -- The first fault of tokens: the first token with which those so far begin nothing of the grammar.
 --
--- What is read, a unit or an expression, is handed in: which tokens are one, within a limit or without.
+-- What is read, a unit or an expression, is handed in: which tokens are one, within a limit or without, and behind which the name
+-- of the theory has to stand.
 use Rattle.std.specs.Prelude.{◌≡◌, ℕ, ◌-◌, Bool, true, false, nat_lt, if◌then◌else◌, List, [], ◌∷◌, ◌++◌, length, slice_get, Option, Some, None}
 use Rattle.pvs_base.specs.declared.code.Code.{Code}
 use Rattle.pvs_base.specs.declared.code.Code.TheVariants as code
@@ -61,28 +62,28 @@ pub data IsWithin (D : Limit → Tokens → Type 0) (ts : Tokens) : Type 0 where
   begins : Begins D bounded ts → IsWithin D ts
   comma : (us : Tokens) (t : Terminal) → ts ≡ us ++ t ∷ [] → Is kind.Comma t → Begins D bounded us → Begins D None ts → IsWithin D ts
 
--- the last of these tokens is END
+-- the last of these tokens is END, behind which the name of the theory has to stand
 abbrev pub BehindEnd : Tokens → Type 0
 BehindEnd ts = (us : Tokens) × (t : Terminal) × (ts ≡ us ++ t ∷ []) × Is kind.End t
 
--- Why a token behind others is refused: without the bounds it could stand there; or else it is an identifier behind END, where the
--- name of the theory has to stand; or it is neither.
-abbrev pub IsWhy : (Limit → Tokens → Type 0) → Tokens → Terminal → Reason → Type 0
-IsWhy D before t reason.TooNested = Begins D None (before ++ t ∷ [])
-IsWhy D before t reason.WrongEnd = (Begins D None (before ++ t ∷ []) → ⊥) × IsId t × BehindEnd before
-IsWhy D before t reason.Unexpected = (Begins D None (before ++ t ∷ []) → ⊥) × (IsId t → BehindEnd before → ⊥)
+-- Why a token behind others is refused: without the bounds it could stand there; or else it is an identifier where the name of the
+-- theory has to stand; or it is neither.
+abbrev pub IsWhy : (Limit → Tokens → Type 0) → (Tokens → Type 0) → Tokens → Terminal → Reason → Type 0
+IsWhy D E before t reason.TooNested = Begins D None (before ++ t ∷ [])
+IsWhy D E before t reason.WrongEnd = (Begins D None (before ++ t ∷ []) → ⊥) × IsId t × E before
+IsWhy D E before t reason.Unexpected = (Begins D None (before ++ t ∷ []) → ⊥) × (IsId t → E before → ⊥)
 
 -- The fault behind tokens that are within the bounds, of which these are the rest: at their end, where the text is not whole or a
 -- lexical fault stands; or at the first of them.
-abbrev pub FaultBehind : (Limit → Tokens → Type 0) → Pos → Option Fault → Tokens → Tokens → Tokens → Fault → Type 0
-FaultBehind D end fault ts before [] f = (f ≡ last_fault end fault) × (fault ≡ None → D bounded ts → ⊥)
-FaultBehind D end fault ts before (t ∷ rest) f =
-    (IsWithin D (before ++ t ∷ []) → ⊥) × (why : Reason) × IsWhy D before t why × (f ≡ record { pos = t.word.pos; code = code_of ts (length before) t.kind why })
+abbrev pub FaultBehind : (Limit → Tokens → Type 0) → (Tokens → Type 0) → Pos → Option Fault → Tokens → Tokens → Tokens → Fault → Type 0
+FaultBehind D E end fault ts before [] f = (f ≡ last_fault end fault) × (fault ≡ None → D bounded ts → ⊥)
+FaultBehind D E end fault ts before (t ∷ rest) f =
+    (IsWithin D (before ++ t ∷ []) → ⊥) × (why : Reason) × IsWhy D E before t why × (f ≡ record { pos = t.word.pos; code = code_of ts (length before) t.kind why })
 
 -- the first fault of tokens that end at a place, with a lexical fault behind them or none
-pub record IsFirst (D : Limit → Tokens → Type 0) (end : Pos) (fault : Option Fault) (ts : Tokens) (f : Fault) : Type 0 where
+pub record IsFirst (D : Limit → Tokens → Type 0) (E : Tokens → Type 0) (end : Pos) (fault : Option Fault) (ts : Tokens) (f : Fault) : Type 0 where
   pub before : Tokens
   pub rest : Tokens
   pub split : ts ≡ before ++ rest
   pub within : IsWithin D before
-  pub behind : FaultBehind D end fault ts before rest f
+  pub behind : FaultBehind D E end fault ts before rest f

@@ -27,7 +27,7 @@ use Rattle.pvs_parser.specs.declared.nesting.Nesting.{Nesting}
 use Rattle.pvs_parser.specs.declared.terminal.Terminal.{Terminal}
 use Rattle.pvs_parser.specs.declared.terminal.TerminalKind.{TerminalKind}
 use Rattle.pvs_parser.specs.declared.terminal.TerminalKind.TheVariants as kind
-use Rattle.pvs_parser.specs.Faults.{code_of, last_fault, IsFirst}
+use Rattle.pvs_parser.specs.Faults.{code_of, last_fault, BehindEnd, IsFirst}
 use Rattle.pvs_parser.specs.Language.{Tokens, Limit, bounded, ReadsExpr, Ending, Derives, whole, outermost}
 use Rattle.pvs_parser.specs.Units.{DerivesUnit}
 use Rattle.pvs_parser.specs.Descent.{Answer, expression}
@@ -197,7 +197,7 @@ IsUnit text limit ts = (u : tree.Unit) × DerivesUnit limit text ts u
 -- the first fault of a text: that it is too long, or that of its tokens
 pub data IsFirstFault (text : List ℕ) : Fault → Type 0 where
   too_long : 2 ^ 20 < length text → IsFirstFault text (record { pos = first_place; code = code.TextTooLong })
-  first : length text ≤ 2 ^ 20 → (f : Fault) → IsFirst (IsUnit text) (place_after first_place text) (terminals_of_text text).fault (terminals_of_text text).tokens f → IsFirstFault text f
+  first : length text ≤ 2 ^ 20 → (f : Fault) → IsFirst (IsUnit text) BehindEnd (place_after first_place text) (terminals_of_text text).fault (terminals_of_text text).tokens f → IsFirstFault text f
 
 -- the unit of a text, or its first fault
 abbrev pub IsAnswer : List ℕ → Result tree.Unit Fault → Type 0
@@ -241,10 +241,14 @@ pub record ReadsSpan (text : List ℕ) (start end : ℕ) (pos : Pos) (x : Expr) 
 abbrev pub IsExpr : Limit → Tokens → Type 0
 IsExpr limit ts = (x : Expr) × (e : Ending) × (m : Nesting) × Derives limit (whole e) outermost ts x m
 
+-- the name of a theory stands nowhere in an expression
+abbrev pub Nowhere : Tokens → Type 0
+Nowhere before = ⊥
+
 -- the first fault of a span
 abbrev pub IsFirstFaultOfSpan : List ℕ → ℕ → ℕ → Pos → Fault → Type 0
 IsFirstFaultOfSpan text start end pos f =
-    IsFirst IsExpr (place_after pos (span_of text start end)) (terminals_of_span text start end pos).fault (terminals_of_span text start end pos).tokens f
+    IsFirst IsExpr Nowhere (place_after pos (span_of text start end)) (terminals_of_span text start end pos).fault (terminals_of_span text start end pos).tokens f
 
 -- what is answered of a span, unless memory runs out
 abbrev pub AnswersSpan : List ℕ → ℕ → ℕ → Pos → Result Expr ParseFault → Type 0
