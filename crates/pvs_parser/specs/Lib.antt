@@ -4,3 +4,4 @@ pub mod Descent
 pub mod Units
 pub mod UnitDescent
 pub mod Text
+pub mod Returns

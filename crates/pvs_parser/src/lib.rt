@@ -2,9 +2,14 @@
 #![tactic(auto)]
 
 mod failure;
+mod fault;
 mod nesting;
 mod start;
+mod stubs;
+mod tables;
 mod terminal;
+mod text;
+mod tokens;
 
 pub use failure::{Failure, ParseFault, Reason, Stop};
 pub use nesting::Nesting;
