@@ -1,5 +1,113 @@
--- A recursion on a count of turns, beside a loop that counts up.
-use Rattle.std.proofs.Common.{◌≡◌, ℕ, suc, ◌+◌, ◌-◌, ◌<◌, ap, ◌∙◌, arith}
+-- Recursions on a count of turns, beside loops that count up.
+use Rattle.std.proofs.Common.{◌≡◌, ℕ, zero, suc, ◌+◌, ◌-◌, ◌<◌, ◌≤◌, List, [], ◌∷◌, ◌++◌, length, ◌==◌, true, false, if◌then◌else◌, Some, None, Ok, Err, ap, ◌∙◌, refl, arith}
+use Rattle.pvs_parser.specs.declared.failure.Failure.{Failure}
+use Rattle.pvs_parser.specs.declared.failure.Failure.TheVariants as failure
+use Rattle.pvs_parser.specs.declared.failure.Reason.TheVariants as reason
+use Rattle.pvs_parser.specs.declared.failure.Stop.{Stop}
+use Rattle.pvs_parser.specs.declared.nesting.Nesting.{Nesting}
+use Rattle.pvs_parser.specs.declared.terminal.TerminalKind.TheVariants as kind
+use Rattle.pvs_syntax.specs.declared.word.Word.{Word}
+use Rattle.pvs_syntax.specs.declared.expression.InstExpr.{InstExpr}
+use Rattle.pvs_syntax.specs.declared.unit.Formal.{Formal}
+use Rattle.pvs_parser.specs.Language.{Limit, bounded, Tokens, outermost}
+use Rattle.pvs_parser.specs.Descent.{Answer, ◌>>=◌, either, after, id, crowded, stop, too_many, Fails, list_from}
+use Rattle.pvs_parser.specs.Steps.{where_full}
+use Rattle.pvs_parser.specs.UnitDescent as spec
+use Rattle.pvs_parser.specs.UnitDescent.{instances_from, inst, formals_from, formal}
 
 pub one_more : {X : Type 0} {x : X} (f : ℕ → X) (n at : ℕ) → at < n → x ≡ f (n - at) → x ≡ f (suc (n - (at + 1)))
 one_more f n at below e = let turn : n - at ≡ suc (n - (at + 1)) = omega arith in e ∙ ap f turn
+
+turn : {X : Type 0} (f : ℕ → X) (n at : ℕ) → at < n → f (n - at) ≡ f (suc (n - (at + 1)))
+turn f n at below = let e : n - at ≡ suc (n - (at + 1)) = omega arith in ap f e
+
+full : {X : Type 0} (f : ℕ → X) (n at : ℕ) → n ≤ at → f (n - at) ≡ f 0
+full f n at above = let e : n - at ≡ 0 = omega arith in ap f e
+
+-- ---- Lists with no room.
+
+-- a list that is full fails so, whatever else is made of what it gives
+fails_full : {A B : Type 0} (C : Type 0) (ts : Tokens) (s : Stop) (f : A → Answer B) → Fails (where_full ts (failure.At s)) (crowded {A = C} ts (Err s) >>= f)
+fails_full C ts s f = elim (s.left == length ts) as (λ b. Fails (if b then failure.At s else failure.At (record { left = length ts; reason = reason.TooNested })) ((if b then Err s else too_many ts) >>= f)) [ true ↦ refl | false ↦ refl ]
+
+crowded_fails : (A C : Type 0) (ts : Tokens) (s : Stop) → Fails {Y = A} (where_full ts (failure.At s)) (crowded {A = C} {B = A} ts (Err s))
+crowded_fails A C ts s = elim (s.left == length ts) as (λ b. Fails {Y = A} (if b then failure.At s else failure.At (record { left = length ts; reason = reason.TooNested })) (if b then Err s else too_many ts)) [ true ↦ refl | false ↦ refl ]
+
+-- ---- Identifiers with commas between them, behind those found.
+
+unfoldable pub ids_from : ℕ → List Word → Tokens → Answer (List Word × Tokens)
+ids_from room found ts = list_from spec.name room found outermost ts >>= λ p. Ok (p.0, p.2)
+
+pub ids_init : (found : List Word) (ts : Tokens) → found ≡ [] → spec.ids bounded ts ≡ ids_from 200 found ts
+unfolding ids_from
+ids_init found ts e = rw e refl
+
+pub ids_err : (n at : ℕ) (found : List Word) (ts : Tokens) (s : Stop) → at < n → id ts ≡ Err s → ids_from (n - at) found ts ≡ Err s
+unfolding ids_from list_from
+ids_err n at found ts s below e = turn (λ k. ids_from k found ts) n at below ∙ rw e refl
+
+pub ids_last : (n at : ℕ) (found : List Word) (ts us : Tokens) (w : Word) → at < n → id ts ≡ Ok (w, us) → after kind.Comma us ≡ None → ids_from (n - at) found ts ≡ Ok (found ++ w ∷ [], us)
+unfolding ids_from list_from
+ids_last n at found ts us w below e a = turn (λ k. ids_from k found ts) n at below ∙ rw (e, a) refl
+
+pub ids_next : (n at : ℕ) (found : List Word) (ts us vs : Tokens) (w : Word) → at < n → id ts ≡ Ok (w, us) → after kind.Comma us ≡ Some vs
+    → ids_from (n - at) found ts ≡ ids_from (n - (at + 1)) (found ++ w ∷ []) vs
+unfolding ids_from list_from
+ids_next n at found ts us vs w below e a = turn (λ k. ids_from k found ts) n at below ∙ rw (e, a) refl
+
+pub ids_many : (n at : ℕ) (found : List Word) (ts us : Tokens) (w : Word) → n ≤ at → id ts ≡ Ok (w, us) → ids_from (n - at) found ts ≡ too_many ts
+unfolding ids_from list_from
+ids_many n at found ts us w above e = full (λ k. ids_from k found ts) n at above ∙ rw e refl
+
+pub ids_full : (n at : ℕ) (found : List Word) (ts : Tokens) (f : Failure) → n ≤ at → Fails f (id ts) → Fails (where_full ts f) (ids_from (n - at) found ts)
+unfolding ids_from list_from
+ids_full n at found ts failure.Memory above h = tt
+ids_full n at found ts (failure.At s) above h = rw (full (λ k. ids_from k found ts) n at above) (rw h (fails_full (Word × Nesting × Tokens) ts s _))
+
+-- ---- Instances with commas between them.
+
+pub instances_err : (limit : Limit) (n at : ℕ) (found : List InstExpr) (ts : Tokens) (s : Stop) → at < n → inst limit ts ≡ Err s → instances_from limit (n - at) found ts ≡ Err s
+unfolding instances_from
+instances_err limit n at found ts s below e = turn (λ k. instances_from limit k found ts) n at below ∙ rw e refl
+
+pub instances_last : (limit : Limit) (n at : ℕ) (found : List InstExpr) (ts us : Tokens) (i : InstExpr) → at < n → inst limit ts ≡ Ok (i, us) → after kind.Comma us ≡ None
+    → instances_from limit (n - at) found ts ≡ Ok (found ++ i ∷ [], us)
+unfolding instances_from
+instances_last limit n at found ts us i below e a = turn (λ k. instances_from limit k found ts) n at below ∙ rw (e, a) refl
+
+pub instances_next : (limit : Limit) (n at : ℕ) (found : List InstExpr) (ts us vs : Tokens) (i : InstExpr) → at < n → inst limit ts ≡ Ok (i, us) → after kind.Comma us ≡ Some vs
+    → instances_from limit (n - at) found ts ≡ instances_from limit (n - (at + 1)) (found ++ i ∷ []) vs
+unfolding instances_from
+instances_next limit n at found ts us vs i below e a = turn (λ k. instances_from limit k found ts) n at below ∙ rw (e, a) refl
+
+pub instances_full : (limit : Limit) (n at : ℕ) (found : List InstExpr) (ts : Tokens) → n ≤ at → instances_from limit (n - at) found ts ≡ stop ts
+unfolding instances_from
+instances_full limit n at found ts above = full (λ k. instances_from limit k found ts) n at above
+
+-- ---- Formals with commas between them.
+
+pub formals_init : (found : List Formal) (ts : Tokens) → found ≡ [] → formals_from bounded 200 [] ts ≡ formals_from bounded (200 - 0) found ts
+formals_init found ts e = rw e refl
+
+pub formals_err : (n at : ℕ) (found : List Formal) (ts : Tokens) (s : Stop) → at < n → formal bounded ts ≡ Err s → formals_from bounded (n - at) found ts ≡ Err s
+unfolding formals_from
+formals_err n at found ts s below e = turn (λ k. formals_from bounded k found ts) n at below ∙ rw e refl
+
+pub formals_last : (n at : ℕ) (found fs : List Formal) (ts us : Tokens) → at < n → formal bounded ts ≡ Ok (fs, us) → after kind.Comma us ≡ None
+    → formals_from bounded (n - at) found ts ≡ Ok (found ++ fs, us)
+unfolding formals_from
+formals_last n at found fs ts us below e a = turn (λ k. formals_from bounded k found ts) n at below ∙ rw (e, a) refl
+
+pub formals_next : (n at : ℕ) (found fs : List Formal) (ts us vs : Tokens) → at < n → formal bounded ts ≡ Ok (fs, us) → after kind.Comma us ≡ Some vs
+    → formals_from bounded (n - at) found ts ≡ formals_from bounded (n - (at + 1)) (found ++ fs) vs
+unfolding formals_from
+formals_next n at found fs ts us vs below e a = turn (λ k. formals_from bounded k found ts) n at below ∙ rw (e, a) refl
+
+pub formals_many : (n at : ℕ) (found fs : List Formal) (ts us : Tokens) → n ≤ at → formal bounded ts ≡ Ok (fs, us) → formals_from bounded (n - at) found ts ≡ too_many ts
+unfolding formals_from
+formals_many n at found fs ts us above e = full (λ k. formals_from bounded k found ts) n at above ∙ rw e refl
+
+pub formals_full : (n at : ℕ) (found : List Formal) (ts : Tokens) (f : Failure) → n ≤ at → Fails f (formal bounded ts) → Fails (where_full ts f) (formals_from bounded (n - at) found ts)
+unfolding formals_from
+formals_full n at found ts failure.Memory above h = tt
+formals_full n at found ts (failure.At s) above h = rw (full (λ k. formals_from bounded k found ts) n at above) (rw h (crowded_fails (List Formal × Tokens) (List Formal × Tokens) ts s))

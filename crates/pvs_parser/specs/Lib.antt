@@ -5,3 +5,4 @@ pub mod Units
 pub mod UnitDescent
 pub mod Text
 pub mod Returns
+pub mod Steps

@@ -1,8 +1,11 @@
 //! Reads texts of the language: units, and expressions that stand in quotes.
 #![tactic(auto)]
 
+mod declarations;
 mod failure;
 mod fault;
+mod formals;
+mod names;
 mod nesting;
 mod start;
 mod stubs;

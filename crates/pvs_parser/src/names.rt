@@ -1,0 +1,92 @@
+//! Lists of names, and instances of theories.
+
+ghost use Rattle.std.specs.Prelude.{◌≡◌, ◌<◌, ◌+◌, [], length, IfOk};
+ghost use Rattle.pvs_parser.specs.Descent.{Gives};
+ghost use Rattle.pvs_parser.specs.Language.{bounded};
+ghost use Rattle.pvs_parser.specs.Steps.{where_full};
+ghost use Rattle.pvs_parser.specs.UnitDescent as spec;
+
+use crate::failure::Failure;
+use crate::nesting::Nesting;
+use crate::stubs::actuals;
+use crate::terminal::{Terminal, TerminalKind};
+use crate::tokens::{after, id, stop, too_many};
+use pvs_base::MAX_LIST;
+use pvs_syntax::{Decl, InstExpr, Word};
+use sqlite_items::Items;
+use std::alloc::Global;
+
+/// Why a list that has the most entries does not go on with these tokens, where one more entry
+/// fails so.
+pub fn where_full(tokens: &[Terminal], failure: Failure) -> Failure
+    ensures { result ≡ where_full tokens.now failure }
+{
+    match failure {
+        Failure::At(stop) if stop.left != tokens.len() => too_many(tokens),
+        _ => failure,
+    }
+}
+
+/// Identifiers with commas between them, and the tokens after them.
+#[tactic(auto, using(crate::proofs::Turns::ids_init, crate::proofs::Turns::ids_err, crate::proofs::Turns::ids_last, crate::proofs::Turns::ids_next, crate::proofs::Turns::ids_many))]
+pub fn ids(alloc: Global, tokens: &[Terminal]) -> Result<(Vec<Word>, &[Terminal]), Failure>
+    ensures value { Gives (λ p. (p.0.items, p.1.now)) result (spec.ids bounded tokens.now) }
+    ensures some { IfOk result (λ p. 0 < length p.0.items) }
+{
+    let mut found = Vec::new(alloc);
+    let mut rest = tokens;
+    for _ in 0..MAX_LIST {
+        let (word, behind) = id(rest)?;
+        found.push(word)?;
+        let Some(next) = after(TerminalKind::Comma, behind) else {
+            return Ok((found, behind));
+        };
+        rest = next;
+    }
+    match id(rest) {
+        Ok(_) => Err(too_many(rest)),
+        Err(failure) => Err(where_full(rest, failure)),
+    }
+}
+
+/// A theory, with the actuals that stand behind its name.
+fn inst(alloc: Global, tokens: &[Terminal]) -> Result<(InstExpr, &[Terminal]), Failure>
+    ensures { Gives (λ p. (p.0, p.1.now)) result (spec.inst bounded tokens.now) }
+{
+    let (theory, rest) = id(tokens)?;
+    let (actuals, rest) = match after(TerminalKind::OpenBracket, rest) {
+        Some(rest) => actuals(alloc, rest.len() + 1, Nesting::OUTERMOST, rest)?,
+        None => (Items::new(alloc), rest),
+    };
+    Ok((InstExpr { theory, actuals }, rest))
+}
+
+/// Instances with commas between them, and the tokens after them.
+#[tactic(auto, using(crate::proofs::Turns::instances_err, crate::proofs::Turns::instances_last, crate::proofs::Turns::instances_next, crate::proofs::Turns::instances_full))]
+fn instances(alloc: Global, tokens: &[Terminal]) -> Result<(Vec<InstExpr>, &[Terminal]), Failure>
+    ensures { Gives (λ p. (p.0.items, p.1.now)) result (spec.instances_from bounded (length tokens.now + 1) [] tokens.now) }
+{
+    let mut found = Vec::new(alloc);
+    let mut rest = tokens;
+    for _ in 0..tokens.len() + 1 {
+        let (instance, behind) = inst(alloc, rest)?;
+        found.push(instance)?;
+        let Some(next) = after(TerminalKind::Comma, behind) else {
+            return Ok((found, behind));
+        };
+        rest = next;
+    }
+    Err(stop(rest))
+}
+
+/// What stands behind IMPORTING: an entry for each instance.
+pub fn importing(alloc: Global, tokens: &[Terminal]) -> Result<(Items<Decl>, &[Terminal]), Failure>
+    ensures { Gives (λ p. (p.0, p.1.now)) result (spec.importing bounded tokens.now) }
+{
+    let (instances, rest) = instances(alloc, tokens)?;
+    let decls: Vec<Decl> = instances
+        .into_iter()
+        .map(|instance| Decl::Importing(instance))
+        .collect(alloc)?;
+    Ok((Items::from_vec(decls), rest))
+}
