@@ -8,12 +8,16 @@ use Rattle.pvs_parser.specs.declared.nesting.Nesting.{Nesting}
 use Rattle.pvs_parser.specs.declared.terminal.TerminalKind.TheVariants as kind
 use Rattle.pvs_syntax.specs.declared.word.Word.{Word}
 use Rattle.pvs_syntax.specs.declared.expression.InstExpr.{InstExpr}
+use Rattle.pvs_syntax.specs.declared.unit.Decl.{Decl}
 use Rattle.pvs_syntax.specs.declared.unit.Formal.{Formal}
+use Rattle.pvs_syntax.specs.declared.unit.Item.{Item}
+use Rattle.pvs_syntax.specs.declared.unit.Unit as tree
+use Rattle.pvs_parser.specs.declared.declarations.Part.{Part}
 use Rattle.pvs_parser.specs.Language.{Limit, bounded, Tokens, outermost}
-use Rattle.pvs_parser.specs.Descent.{Answer, ◌>>=◌, either, after, id, crowded, stop, too_many, Fails, list_from}
-use Rattle.pvs_parser.specs.Steps.{where_full}
+use Rattle.pvs_parser.specs.Descent.{Answer, ◌>>=◌, either, after, id, crowded, stop, ended, too_many, Fails, list_from}
+use Rattle.pvs_parser.specs.Steps.{where_full, declares}
 use Rattle.pvs_parser.specs.UnitDescent as spec
-use Rattle.pvs_parser.specs.UnitDescent.{instances_from, inst, formals_from, formal}
+use Rattle.pvs_parser.specs.UnitDescent.{instances_from, inst, formals_from, formal, many_from, comes_decl, past_semicolon, items_from, one_item}
 
 pub one_more : {X : Type 0} {x : X} (f : ℕ → X) (n at : ℕ) → at < n → x ≡ f (n - at) → x ≡ f (suc (n - (at + 1)))
 one_more f n at below e = let turn : n - at ≡ suc (n - (at + 1)) = omega arith in e ∙ ap f turn
@@ -111,3 +115,54 @@ pub formals_full : (n at : ℕ) (found : List Formal) (ts : Tokens) (f : Failure
 unfolding formals_from
 formals_full n at found ts failure.Memory above h = tt
 formals_full n at found ts (failure.At s) above h = rw (full (λ k. formals_from bounded k found ts) n at above) (rw h (crowded_fails (List Formal × Tokens) (List Formal × Tokens) ts s))
+
+-- ---- Declarations, as long as one comes next.
+
+pub many_end : (part : Part) (n at : ℕ) (found : List Decl) (ts : Tokens) → at < n → comes_decl ts ≡ false → many_from (declares bounded part) (n - at) found ts ≡ Ok (found, ts)
+unfolding many_from
+many_end part n at found ts below e = turn (λ k. many_from (declares bounded part) k found ts) n at below ∙ rw e refl
+
+pub many_err : (part : Part) (n at : ℕ) (found : List Decl) (ts : Tokens) (s : Stop) → at < n → comes_decl ts ≡ true → declares bounded part ts ≡ Err s
+    → many_from (declares bounded part) (n - at) found ts ≡ Err s
+unfolding many_from
+many_err part n at found ts s below c e = turn (λ k. many_from (declares bounded part) k found ts) n at below ∙ rw (c, e) refl
+
+pub many_next : (part : Part) (n at : ℕ) (found ds : List Decl) (ts us : Tokens) → at < n → comes_decl ts ≡ true → declares bounded part ts ≡ Ok (ds, us)
+    → many_from (declares bounded part) (n - at) found ts ≡ many_from (declares bounded part) (n - (at + 1)) (found ++ ds) (past_semicolon us)
+unfolding many_from
+many_next part n at found ds ts us below c e = turn (λ k. many_from (declares bounded part) k found ts) n at below ∙ rw (c, e) refl
+
+pub many_full : (part : Part) (n at : ℕ) (found : List Decl) (ts : Tokens) → n ≤ at → many_from (declares bounded part) (n - at) found ts ≡ Ok (found, ts)
+unfolding many_from
+many_full part n at found ts above = full (λ k. many_from (declares bounded part) k found ts) n at above
+
+-- ---- Theories and proofs, up to the end of the tokens.
+
+unfoldable pub unit_from : List ℕ → ℕ → List Item → Tokens → Answer tree.Unit
+unit_from text n found ts = items_from bounded text n found ts >>= λ is. Ok (record { items = is })
+
+pub unit_init : (text : List ℕ) (found : List Item) (ts : Tokens) → found ≡ [] → spec.unit bounded text ts ≡ unit_from text (length ts) found ts
+unfolding unit_from
+unit_init text found ts e = rw e refl
+
+pub unit_end : (text : List ℕ) (n : ℕ) (found : List Item) (ts : Tokens) → length ts ≡ 0 → unit_from text n found ts ≡ Ok (record { items = found })
+unfolding unit_from items_from
+unit_end text zero found [] e = refl
+unit_end text (suc n) found [] e = refl
+unit_end text n found (t ∷ ts) e = cc
+
+pub unit_err : (text : List ℕ) (n at : ℕ) (found : List Item) (ts : Tokens) (s : Stop) → at < n → (length ts ≡ 0 → ⊥) → one_item bounded text ts ≡ Err s → unit_from text (n - at) found ts ≡ Err s
+unfolding unit_from items_from
+unit_err text n at found [] s below some e = absurd (some refl)
+unit_err text n at found (t ∷ ts) s below some e = turn (λ k. unit_from text k found (t ∷ ts)) n at below ∙ rw e refl
+
+pub unit_next : (text : List ℕ) (n at : ℕ) (found : List Item) (ts us : Tokens) (i : Item) → at < n → (length ts ≡ 0 → ⊥) → one_item bounded text ts ≡ Ok (i, us)
+    → unit_from text (n - at) found ts ≡ unit_from text (n - (at + 1)) (found ++ i ∷ []) us
+unfolding unit_from items_from
+unit_next text n at found [] us i below some e = absurd (some refl)
+unit_next text n at found (t ∷ ts) us i below some e = turn (λ k. unit_from text k found (t ∷ ts)) n at below ∙ rw e refl
+
+pub unit_full : (text : List ℕ) (n at : ℕ) (found : List Item) (ts : Tokens) → n ≤ at → unit_from text (n - at) found ts ≡ ended (record { items = found }) ts
+unfolding unit_from items_from
+unit_full text n at found [] above = full (λ k. unit_from text k found []) n at above
+unit_full text n at found (t ∷ ts) above = full (λ k. unit_from text k found (t ∷ ts)) n at above

@@ -7,12 +7,15 @@ mod fault;
 mod formals;
 mod names;
 mod nesting;
+mod proofs;
 mod start;
 mod stubs;
 mod tables;
 mod terminal;
 mod text;
+mod theories;
 mod tokens;
+mod units;
 
 pub use failure::{Failure, ParseFault, Reason, Stop};
 pub use nesting::Nesting;
