@@ -2,9 +2,10 @@
 
 ghost use Rattle.std.specs.Prelude.{◌≡◌, ◌≤◌, ◌^◌, length};
 ghost use Rattle.pvs_base.specs.Place.{place_after};
+ghost use Rattle.pvs_parser.specs.Returns.{reported};
 ghost use Rattle.pvs_parser.specs.Text as spec;
 
-use crate::failure::{Reason, Stop};
+use crate::failure::{Failure, ParseFault, Reason, Stop};
 use crate::terminal::{Terminal, TerminalKind};
 use crate::text;
 use pvs_base::{Code, Fault, Pos};
@@ -61,7 +62,7 @@ fn code_of(tokens: &[Terminal], at: usize, kind: TerminalKind, reason: Reason) -
 ///
 /// Where no token is left, it is the lexical fault, or that the span ends: at the place after its
 /// last byte.
-pub fn fault_of(
+fn fault_of(
     span: &[u8],
     pos: Pos,
     lexical: Option<Fault>,
@@ -86,5 +87,24 @@ pub fn fault_of(
             pos: text::place_after(pos, span),
             code: Code::Unexpected,
         },
+    }
+}
+
+/// Why a span gave no tree, where reading its tokens failed so.
+pub fn parse_fault(
+    span: &[u8],
+    pos: Pos,
+    lexical: Option<Fault>,
+    tokens: &[Terminal],
+    failure: Failure,
+) -> ParseFault
+    requires size { length span.now ≤ 2 ^ 20 }
+    requires line { pos.line ≤ 2 ^ 30 }
+    requires col { pos.col ≤ 2 ^ 30 }
+    ensures { result ≡ reported (place_after pos span.now) lexical tokens.now failure }
+{
+    match failure {
+        Failure::Memory => ParseFault::Memory,
+        Failure::At(stop) => ParseFault::At(fault_of(span, pos, lexical, tokens, stop)),
     }
 }

@@ -7,6 +7,7 @@ mod fault;
 mod formals;
 mod names;
 mod nesting;
+mod parse;
 mod proofs;
 mod start;
 mod stubs;
@@ -19,5 +20,6 @@ mod units;
 
 pub use failure::{Failure, ParseFault, Reason, Stop};
 pub use nesting::Nesting;
+pub use parse::{one_answer, parse_expr, parse_unit};
 pub use start::Start;
 pub use terminal::{Connective, Prefix, Terminal, TerminalKind};
