@@ -1,4 +1,3 @@
 pub mod Spans
-pub mod Turns
+pub mod UnitTurns
 pub mod Each
-pub mod WholeUnits

@@ -9,7 +9,7 @@ ghost use Rattle.pvs_parser.specs.UnitDescent as spec;
 
 use crate::failure::Failure;
 use crate::formals::{plus, type_of};
-use crate::names::{ids, importing};
+use crate::importings::{ids, importing};
 use crate::nesting::Nesting;
 use crate::start::Start;
 use crate::stubs;
@@ -301,7 +301,7 @@ fn past_semicolon(tokens: &[Terminal]) -> &[Terminal]
 }
 
 /// Declarations of a part of a theory, as long as one comes next, and the tokens after them.
-#[tactic(auto, using(crate::proofs::Turns::many_end, crate::proofs::Turns::many_err, crate::proofs::Turns::many_next, crate::proofs::Turns::many_full))]
+#[tactic(auto, using(crate::proofs::UnitTurns::many_end, crate::proofs::UnitTurns::many_err, crate::proofs::UnitTurns::many_next, crate::proofs::UnitTurns::many_full))]
 pub fn declarations(alloc: Global, part: Part, tokens: &[Terminal]) -> Decls<'_>
     ensures { Gives (λ p. (p.0, p.1.now)) result (spec.many_from (declares bounded part) (length tokens.now) [] tokens.now) }
 {

@@ -8,7 +8,7 @@ ghost use Rattle.pvs_parser.specs.Units.{type_formal, const_formal};
 ghost use Rattle.pvs_parser.specs.UnitDescent as spec;
 
 use crate::failure::Failure;
-use crate::names::{ids, where_full};
+use crate::importings::{ids, where_full};
 use crate::nesting::Nesting;
 use crate::stubs::type_expr;
 use crate::terminal::{Terminal, TerminalKind};
@@ -107,7 +107,7 @@ fn formal(alloc: Global, tokens: &[Terminal]) -> Result<(Items<Formal>, &[Termin
 }
 
 /// Formals with commas between them, and the tokens after them.
-#[tactic(auto, using(crate::proofs::Turns::formals_init, crate::proofs::Turns::formals_err, crate::proofs::Turns::formals_last, crate::proofs::Turns::formals_next, crate::proofs::Turns::formals_many))]
+#[tactic(auto, using(crate::proofs::UnitTurns::formals_init, crate::proofs::UnitTurns::formals_err, crate::proofs::UnitTurns::formals_last, crate::proofs::UnitTurns::formals_next, crate::proofs::UnitTurns::formals_many))]
 fn formals(alloc: Global, tokens: &[Terminal]) -> Result<(Items<Formal>, &[Terminal]), Failure>
     ensures { Gives (λ p. (p.0, p.1.now)) result (spec.formals_from bounded 200 [] tokens.now) }
 {

@@ -5,7 +5,7 @@ mod declarations;
 mod failure;
 mod fault;
 mod formals;
-mod names;
+mod importings;
 mod nesting;
 mod parse;
 mod proofs;

@@ -35,7 +35,7 @@ fn item<'a>(
 }
 
 /// The tree of all the tokens of a text.
-#[tactic(auto, using(crate::proofs::Turns::unit_init, crate::proofs::Turns::unit_end, crate::proofs::Turns::unit_err, crate::proofs::Turns::unit_next, crate::proofs::Turns::unit_full))]
+#[tactic(auto, using(crate::proofs::UnitTurns::unit_init, crate::proofs::UnitTurns::unit_end, crate::proofs::UnitTurns::unit_err, crate::proofs::UnitTurns::unit_next, crate::proofs::UnitTurns::unit_full))]
 pub fn unit(alloc: Global, text: &[u8], tokens: &[Terminal]) -> Result<Unit, Failure>
     ensures { Gives (λ u. u) result (spec.unit bounded text.now tokens.now) }
 {

@@ -1,4 +1,4 @@
-use Rattle.pvs_parser.proofs.Turns.{formals_full}
+use Rattle.pvs_parser.proofs.UnitTurns.{formals_full}
 use Rattle.pvs_parser.proofs.formals.formals.Goals as goal
 
 pub returns : goal.returns

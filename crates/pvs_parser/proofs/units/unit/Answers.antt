@@ -1,4 +1,4 @@
-use Rattle.pvs_parser.proofs.Turns.{unit_init}
+use Rattle.pvs_parser.proofs.UnitTurns.{unit_init}
 use Rattle.pvs_parser.proofs.units.unit.Goals as goal
 
 pub loop-init : goal.loop-init

@@ -1,7 +1,7 @@
 use Rattle.std.proofs.Common.{◌≡◌, ◌-◌}
 use Rattle.pvs_parser.specs.Language.{bounded}
 use Rattle.pvs_parser.specs.UnitDescent as spec
-use Rattle.pvs_parser.proofs.Turns.{unit_from}
+use Rattle.pvs_parser.proofs.UnitTurns.{unit_from}
 use Rattle.pvs_parser.proofs.units.unit.Given as goal
 
 -- reading goes on from here

@@ -1,5 +1,5 @@
-use Rattle.pvs_parser.proofs.Turns.{ids_full}
-use Rattle.pvs_parser.proofs.names.ids.Goals as goal
+use Rattle.pvs_parser.proofs.UnitTurns.{ids_full}
+use Rattle.pvs_parser.proofs.importings.ids.Goals as goal
 
 pub returns-clause-value : goal.returns-clause-value
 returns-clause-value c =

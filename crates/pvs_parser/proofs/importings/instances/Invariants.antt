@@ -1,7 +1,7 @@
 use Rattle.std.proofs.Common.{◌≡◌, ◌-◌, ◌+◌, [], length}
 use Rattle.pvs_parser.specs.Language.{bounded}
 use Rattle.pvs_parser.specs.UnitDescent as spec
-use Rattle.pvs_parser.proofs.names.instances.Given as goal
+use Rattle.pvs_parser.proofs.importings.instances.Given as goal
 
 -- reading goes on from here
 abbrev pub invariant-loop : goal.invariant-loop

@@ -28,7 +28,7 @@ pub fn where_full(tokens: &[Terminal], failure: Failure) -> Failure
 }
 
 /// Identifiers with commas between them, and the tokens after them.
-#[tactic(auto, using(crate::proofs::Turns::ids_init, crate::proofs::Turns::ids_err, crate::proofs::Turns::ids_last, crate::proofs::Turns::ids_next, crate::proofs::Turns::ids_many))]
+#[tactic(auto, using(crate::proofs::UnitTurns::ids_init, crate::proofs::UnitTurns::ids_err, crate::proofs::UnitTurns::ids_last, crate::proofs::UnitTurns::ids_next, crate::proofs::UnitTurns::ids_many))]
 pub fn ids(alloc: Global, tokens: &[Terminal]) -> Result<(Vec<Word>, &[Terminal]), Failure>
     ensures value { Gives (λ p. (p.0.items, p.1.now)) result (spec.ids bounded tokens.now) }
     ensures some { IfOk result (λ p. 0 < length p.0.items) }
@@ -62,7 +62,7 @@ fn inst(alloc: Global, tokens: &[Terminal]) -> Result<(InstExpr, &[Terminal]), F
 }
 
 /// Instances with commas between them, and the tokens after them.
-#[tactic(auto, using(crate::proofs::Turns::instances_err, crate::proofs::Turns::instances_last, crate::proofs::Turns::instances_next, crate::proofs::Turns::instances_full))]
+#[tactic(auto, using(crate::proofs::UnitTurns::instances_err, crate::proofs::UnitTurns::instances_last, crate::proofs::UnitTurns::instances_next, crate::proofs::UnitTurns::instances_full))]
 fn instances(alloc: Global, tokens: &[Terminal]) -> Result<(Vec<InstExpr>, &[Terminal]), Failure>
     ensures { Gives (λ p. (p.0.items, p.1.now)) result (spec.instances_from bounded (length tokens.now + 1) [] tokens.now) }
 {

@@ -1,8 +1,8 @@
 use Rattle.std.proofs.Common.{◌≡◌, ◌-◌, ◌<◌, length}
 use Rattle.pvs_parser.specs.Language.{bounded}
 use Rattle.pvs_parser.specs.UnitDescent as spec
-use Rattle.pvs_parser.proofs.Turns.{ids_from}
-use Rattle.pvs_parser.proofs.names.ids.Given as goal
+use Rattle.pvs_parser.proofs.UnitTurns.{ids_from}
+use Rattle.pvs_parser.proofs.importings.ids.Given as goal
 
 -- reading goes on from here
 abbrev pub invariant-loop : goal.invariant-loop
