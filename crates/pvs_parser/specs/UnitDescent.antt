@@ -1,5 +1,5 @@
 -- Reading units from left to right. Where the tokens do not go on as a unit, or nest too deep, reading stops.
-use Rattle.std.specs.Prelude.{◌≡◌, ℕ, zero, suc, ◌+◌, ◌==◌, Bool, true, false, bytes_eq, if◌then◌else◌, List, [], ◌∷◌, ◌++◌, length, map, Option, Some, None, Result, Ok, Err}
+use Rattle.std.specs.Prelude.{ℕ, zero, suc, ◌+◌, Bool, true, false, bytes_eq, if◌then◌else◌, List, [], ◌∷◌, ◌++◌, length, map, Option, Some, None, Ok, Err}
 use Rattle.pvs_parser.specs.declared.failure.Reason.TheVariants as reason
 use Rattle.pvs_parser.specs.declared.nesting.Nesting.{Nesting}
 use Rattle.pvs_parser.specs.declared.terminal.Terminal.{Terminal}
@@ -22,7 +22,7 @@ use Rattle.pvs_syntax.specs.declared.unit.Proof.{Proof}
 use Rattle.pvs_syntax.specs.declared.unit.Theory.{Theory}
 use Rattle.pvs_syntax.specs.declared.unit.Unit as tree
 use Rattle.pvs_parser.specs.Terminals.{is_id}
-use Rattle.pvs_parser.specs.Language.{Limit, Item as ListItem, Parameter, Variable, Tokens, instance, outermost, inside}
+use Rattle.pvs_parser.specs.Language.{Limit, Parameter, Variable, Tokens, instance, outermost, inside}
 use Rattle.pvs_parser.specs.Units.{type_formal, const_formal, type_decl, var_decl, const_decl, formula_of, spelling}
 use Rattle.pvs_parser.specs.Descent.{Answer, ◌>>=◌, either, Read, stop, too_deep, after, expect, id, is_below, enter, Go, deeper, crowded, list_from, entries, framed_with, reader}
 
@@ -45,7 +45,7 @@ name l ts = id ts >>= λ p. Ok (p.0, l, p.1)
 
 -- identifiers with commas between them
 abbrev pub ids : Limit → Tokens → Answer (List Word × Tokens)
-ids limit ts = list_from name (entries limit ts) [] outermost ts >>= λ p. Ok (p.0, p.2)
+ids limit ts = list_from is_id name (entries limit ts) [] outermost ts >>= λ p. Ok (p.0, p.2)
 
 -- actuals behind a bracket
 abbrev pub actuals : Limit → Tokens → Answer (List Actual × Tokens)
@@ -84,7 +84,7 @@ formal limit ts = ids limit ts >>= λ p. expect kind.Colon p.1 >>= λ us. formal
 
 -- formals with commas between them, behind those found; at most so many
 unfoldable pub formals_from : Limit → ℕ → List Formal → Tokens → Answer (List Formal × Tokens)
-formals_from limit zero found ts = crowded ts (formal limit ts)
+formals_from limit zero found ts = crowded is_id ts
 formals_from limit (suc room) found ts = formal limit ts >>= λ p. either (after kind.Comma p.1) (λ us. formals_from limit room (found ++ p.0) us) (Ok (found ++ p.0, p.1))
 
 -- formals behind a bracket

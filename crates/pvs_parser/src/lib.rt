@@ -6,6 +6,7 @@ mod failure;
 mod fault;
 mod formals;
 mod importings;
+mod grammar;
 mod nesting;
 mod parse;
 mod proofs;
@@ -19,6 +20,7 @@ mod tokens;
 mod units;
 
 pub use failure::{Failure, ParseFault, Reason, Stop};
+pub use grammar::one_expression;
 pub use nesting::Nesting;
 pub use parse::{one_answer, parse_expr, parse_unit};
 pub use start::Start;
