@@ -1,3 +1,4 @@
 pub mod Terminals
 pub mod Language
 pub mod Descent
+pub mod Nests
