@@ -3,6 +3,7 @@
 ghost use Rattle.std.specs.Prelude.{◌≡◌};
 ghost use Rattle.pvs_parser.specs.declared.failure.Failure.TheVariants.{Memory};
 
+use pvs_base::Fault;
 use std::alloc::{AllocError, AllocFailed};
 
 /// Why reading stopped at a token.
@@ -48,4 +49,14 @@ impl<T: Drop> From<AllocFailed<T>> for Failure {
     fn from(_: AllocFailed<T>) -> Failure {
         Failure::Memory
     }
+}
+
+/// Why a text or a span of one gave no tree.
+#[derive(Debug, Drop)]
+pub enum ParseFault {
+    /// The first fault.
+    At(Fault),
+
+    /// Memory ran out.
+    Memory,
 }

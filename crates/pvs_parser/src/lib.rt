@@ -10,7 +10,7 @@ mod terminal;
 mod tokens;
 mod trees;
 
-pub use failure::{Failure, Reason, Stop};
+pub use failure::{Failure, ParseFault, Reason, Stop};
 pub use nesting::Nesting;
 pub use start::Start;
 pub use terminal::{Connective, Prefix, Terminal, TerminalKind};

@@ -1,0 +1,274 @@
+-- Which unit a text is, and which expression a span of it.
+use Rattle.std.specs.Prelude.{◌≡◌, ◌≤◌, ◌^◌, ℕ, suc, ◌+◌, ◌-◌, ◌*◌, ◌==◌, nat_lt, Bool, true, false, if◌then◌else◌, List, [], ◌∷◌, length, map, take, drop, codes, slice_get, Option, Some, None, Result, Ok, Err, All, ⊤}
+use Rattle.std.specs.Str.{bytes_eq}
+use Rattle.pvs_base.specs.declared.code.Code.{Code}
+use Rattle.pvs_base.specs.declared.code.Code.TheVariants as code
+use Rattle.pvs_base.specs.declared.code.Fault.{Fault}
+use Rattle.pvs_base.specs.declared.place.Pos.{Pos}
+use Rattle.pvs_base.specs.Place.{place_after}
+use Rattle.pvs_lexer.specs.declared.token.Token.{Token}
+use Rattle.pvs_lexer.specs.declared.token.TokenKind.{TokenKind}
+use Rattle.pvs_lexer.specs.declared.token.TokenKind.TheVariants as token
+use Rattle.pvs_lexer.specs.declared.words.Keyword.{Keyword}
+use Rattle.pvs_lexer.specs.declared.words.Keyword.TheVariants as k
+use Rattle.pvs_lexer.specs.Keywords.{keyword_of}
+use Rattle.pvs_lexer.specs.Spans.{bytes_of}
+use Rattle.pvs_lexer.specs.Tokens.{Lexed, tokens_of}
+use Rattle.pvs_syntax.specs.declared.expression.Expr.{Expr}
+use Rattle.pvs_syntax.specs.declared.unit.Item.{Item}
+use Rattle.pvs_syntax.specs.declared.unit.Item.TheVariants as item
+use Rattle.pvs_syntax.specs.declared.unit.Unit as tree
+use Rattle.pvs_parser.specs.declared.failure.Reason.{Reason}
+use Rattle.pvs_parser.specs.declared.failure.Reason.TheVariants as reason
+use Rattle.pvs_parser.specs.declared.failure.Stop.{Stop}
+use Rattle.pvs_parser.specs.declared.failure.ParseFault.{ParseFault}
+use Rattle.pvs_parser.specs.declared.failure.ParseFault.TheVariants as parse_fault
+use Rattle.pvs_parser.specs.declared.terminal.Terminal.{Terminal}
+use Rattle.pvs_parser.specs.declared.terminal.TerminalKind.{TerminalKind}
+use Rattle.pvs_parser.specs.declared.terminal.TerminalKind.TheVariants as kind
+use Rattle.pvs_parser.specs.Language.{Tokens, bounded, ReadsExpr}
+use Rattle.pvs_parser.specs.Units.{DerivesUnit}
+use Rattle.pvs_parser.specs.Descent.{Answer, expression}
+use Rattle.pvs_parser.specs.UnitDescent.{unit}
+
+-- ---- What a token is for the grammar.
+
+abbrev pub keyword_kind : Keyword → TerminalKind
+keyword_kind k.And = kind.And
+keyword_kind k.Assuming = kind.Assuming
+keyword_kind k.Assumption = kind.Assumption
+keyword_kind k.Axiom = kind.Axiom
+keyword_kind k.Begin = kind.Begin
+keyword_kind k.Challenge = kind.Lemma
+keyword_kind k.Claim = kind.Lemma
+keyword_kind k.Conjecture = kind.Lemma
+keyword_kind k.Corollary = kind.Lemma
+keyword_kind k.Else = kind.Else
+keyword_kind k.Elsif = kind.Elsif
+keyword_kind k.End = kind.End
+keyword_kind k.EndAssuming = kind.EndAssuming
+keyword_kind k.EndIf = kind.EndIf
+keyword_kind k.Exists = kind.Exists
+keyword_kind k.Fact = kind.Lemma
+keyword_kind k.False = kind.False
+keyword_kind k.Forall = kind.Forall
+keyword_kind k.Formula = kind.Lemma
+keyword_kind k.If = kind.If
+keyword_kind k.Iff = kind.Iff
+keyword_kind k.Implies = kind.Implies
+keyword_kind k.Importing = kind.Importing
+keyword_kind k.In = kind.In
+keyword_kind k.Lambda = kind.Lambda
+keyword_kind k.Law = kind.Lemma
+keyword_kind k.Lemma = kind.Lemma
+keyword_kind k.Let = kind.Let
+keyword_kind k.NonemptyType = kind.NonemptyType
+keyword_kind k.Not = kind.Not
+keyword_kind k.Obligation = kind.Lemma
+keyword_kind k.Or = kind.Or
+keyword_kind k.Postulate = kind.Axiom
+keyword_kind k.Proposition = kind.Lemma
+keyword_kind k.Sublemma = kind.Lemma
+keyword_kind k.Then = kind.Then
+keyword_kind k.Theorem = kind.Lemma
+keyword_kind k.Theory = kind.Theory
+keyword_kind k.True = kind.True
+keyword_kind k.Type = kind.Type
+keyword_kind k.Var = kind.Var
+keyword_kind _ = kind.OutOfProfile
+
+-- a word that is no keyword
+abbrev pub name_kind : List ℕ → TerminalKind
+name_kind bytes = if bytes_eq bytes (codes "proof") then kind.Proof else kind.Id
+
+abbrev pub word_kind : List ℕ → Option Keyword → TerminalKind
+word_kind bytes (Some keyword) = keyword_kind keyword
+word_kind bytes None = name_kind bytes
+
+-- a symbol of one byte
+abbrev pub sign_kind : ℕ → TerminalKind
+sign_kind b =
+    if b == 40 then kind.Open
+    else (if b == 41 then kind.Close
+    else (if b == 91 then kind.OpenBracket
+    else (if b == 93 then kind.CloseBracket
+    else (if b == 123 then kind.OpenBrace
+    else (if b == 125 then kind.CloseBrace
+    else (if b == 44 then kind.Comma
+    else (if b == 59 then kind.Semicolon
+    else (if b == 58 then kind.Colon
+    else (if b == 46 then kind.Dot
+    else (if b == 124 then kind.Bar
+    else (if b == 61 then kind.Equal
+    else (if b == 38 then kind.And
+    else (if b == 43 then kind.Plus
+    else (if b == 96 then kind.Backquote else kind.OutOfProfile))))))))))))))
+
+-- a symbol of two bytes
+abbrev pub pair_kind : List ℕ → TerminalKind
+pair_kind bytes =
+    if bytes_eq bytes (codes "->") then kind.Arrow
+    else (if bytes_eq bytes (codes "=>") then kind.Implies
+    else (if bytes_eq bytes (codes "/=") then kind.Differs
+    else (if bytes_eq bytes (codes "/\\") then kind.And
+    else (if bytes_eq bytes (codes "\\/") then kind.Or else kind.OutOfProfile))))
+
+abbrev pub symbol_kind : List ℕ → TerminalKind
+symbol_kind [] = kind.OutOfProfile
+symbol_kind (a ∷ []) = sign_kind a
+symbol_kind (a ∷ b ∷ []) = pair_kind (a ∷ b ∷ [])
+symbol_kind (a ∷ b ∷ c ∷ bs) = kind.Iff
+
+-- a variable of a sequent, which is an identifier in a quoted term
+abbrev pub variable_kind : Bool → TerminalKind
+variable_kind true = kind.Id
+variable_kind false = kind.Variable
+
+-- a token of this kind with these bytes, in a quoted term or not
+abbrev pub kind_of : Bool → TokenKind → List ℕ → TerminalKind
+kind_of quoted token.Word bytes = word_kind bytes (keyword_of bytes)
+kind_of quoted token.Bang bytes = variable_kind quoted
+kind_of quoted token.Number bytes = kind.Number
+kind_of quoted token.Quoted bytes = kind.OutOfProfile
+kind_of quoted token.Symbol bytes = symbol_kind bytes
+
+-- a token of a span that begins at this offset of a text
+abbrev pub terminal : Bool → ℕ → List ℕ → Token → Terminal
+terminal quoted offset span t = record {
+  kind = kind_of quoted t.kind (bytes_of span t);
+  word = record { start = offset + t.start; end = offset + t.end; pos = t.pos };
+}
+
+-- the terminals of a span that begins at an offset and a place, and the lexical fault behind them, if there is one
+pub record Terminals : Type 0 where
+  pub tokens : Tokens
+  pub fault : Option Fault
+
+abbrev pub terminals_of : Bool → ℕ → List ℕ → Lexed → Terminals
+terminals_of quoted offset span lexed = record { tokens = map (terminal quoted offset span) lexed.tokens; fault = lexed.fault }
+
+abbrev pub terminals : Bool → ℕ → Pos → List ℕ → Terminals
+terminals quoted offset pos span = terminals_of quoted offset span (tokens_of pos span)
+
+-- ---- Where reading stops, as a fault.
+
+abbrev pub kind_at : Option Terminal → Option TerminalKind
+kind_at None = None
+kind_at (Some t) = Some t.kind
+
+-- whether the last kind and the one before it are those of a type that is declared nonempty
+abbrev pub behind_nonempty : Option TerminalKind → Option TerminalKind → Bool
+behind_nonempty (Some kind.Plus) (Some kind.Type) = true
+behind_nonempty (Some kind.NonemptyType) second = true
+behind_nonempty first second = false
+
+-- the kind of the token that stands so far before the one of this number
+abbrev pub kind_before : Tokens → ℕ → ℕ → Option TerminalKind
+kind_before ts at back = if nat_lt at back then None else kind_at (slice_get ts (at - back))
+
+-- whether a token of this kind with this number, where the grammar does not have it, is one of PVS that no form has there
+abbrev pub is_outside : Tokens → ℕ → TerminalKind → Bool
+is_outside ts at kind.OutOfProfile = true
+is_outside ts at kind.Plus = true
+is_outside ts at kind.Number = true
+is_outside ts at kind.Equal = behind_nonempty (kind_before ts at 1) (kind_before ts at 2)
+is_outside ts at k = false
+
+-- the code of a token of this number where reading stops for this reason
+abbrev pub code_of : Tokens → ℕ → TerminalKind → Reason → Code
+code_of ts at k reason.TooNested = code.TooNested
+code_of ts at k reason.WrongEnd = code.WrongEnd
+code_of ts at k reason.Unexpected = if is_outside ts at k then code.OutOfProfile else code.Unexpected
+
+-- the fault where no token is left: the lexical one, or that the text ends here
+abbrev pub last_fault : Pos → Option Fault → Fault
+last_fault end None = record { pos = end; code = code.Unexpected }
+last_fault end (Some f) = f
+
+abbrev pub fault_at : Pos → Option Fault → Tokens → ℕ → Reason → Option Terminal → Fault
+fault_at end fault ts at why None = last_fault end fault
+fault_at end fault ts at why (Some t) = record { pos = t.word.pos; code = code_of ts at t.kind why }
+
+-- the fault of a stop in tokens that end at a place, with a lexical fault behind them or none
+abbrev pub fault_of : Pos → Option Fault → Tokens → Stop → Fault
+fault_of end fault ts s = fault_at end fault ts (length ts - s.left) s.reason (slice_get ts (length ts - s.left))
+
+-- what is read where no lexical fault stands behind it
+abbrev pub unless_fault : {A : Type 0} → Option Fault → A → Result A Fault
+unless_fault None x = Ok x
+unless_fault (Some f) x = Err f
+
+abbrev pub judged : {A : Type 0} → Pos → Terminals → Answer A → Result A Fault
+judged end ts (Err s) = Err (fault_of end ts.fault ts.tokens s)
+judged end ts (Ok x) = unless_fault ts.fault x
+
+-- ---- Whole texts.
+
+abbrev pub first_place : Pos
+first_place = record { line = 1; col = 1 }
+
+abbrev pub terminals_of_text : List ℕ → Terminals
+terminals_of_text text = terminals false 0 first_place text
+
+-- the unit of a text of any length, or the fault where reading it stops
+abbrev pub read_text : List ℕ → Result tree.Unit Fault
+read_text text = if nat_lt (2 ^ 20) (length text) then Err (record { pos = first_place; code = code.TextTooLong })
+    else judged (place_after first_place text) (terminals_of_text text) (unit bounded text (terminals_of_text text).tokens)
+
+-- a text is this unit
+pub record Reads (text : List ℕ) (u : tree.Unit) : Type 0 where
+  pub small : length text ≤ 2 ^ 20
+  pub faultless : (terminals_of_text text).fault ≡ None
+  pub derives : DerivesUnit bounded text (terminals_of_text text).tokens u
+
+-- the first fault of a text
+pub record IsFirstFault (text : List ℕ) (f : Fault) : Type 0 where
+  pub stops : read_text text ≡ Err f
+
+-- the unit of a text, or its first fault
+abbrev pub IsAnswer : List ℕ → Result tree.Unit Fault → Type 0
+IsAnswer text (Ok u) = Reads text u
+IsAnswer text (Err f) = IsFirstFault text f
+
+-- what is answered of a text, unless memory runs out
+abbrev pub Answers : List ℕ → Result tree.Unit ParseFault → Type 0
+Answers text (Ok u) = IsAnswer text (Ok u)
+Answers text (Err (parse_fault.At f)) = IsAnswer text (Err f)
+Answers text (Err parse_fault.Memory) = ⊤
+
+-- the script of a proof lies in the text
+abbrev pub SpanIn : List ℕ → Item → Type 0
+SpanIn text (item.Theory t) = ⊤
+SpanIn text (item.Proof p) = (p.start ≤ p.end) × (p.end ≤ length text)
+
+abbrev pub SpansIn : List ℕ → tree.Unit → Type 0
+SpansIn text u = All (SpanIn text) u.items
+
+-- ---- Expressions in quotes.
+
+-- the bytes from one offset of a text up to another
+abbrev pub span_of : List ℕ → ℕ → ℕ → List ℕ
+span_of text start end = take (end - start) (drop start text)
+
+abbrev pub terminals_of_span : List ℕ → ℕ → ℕ → Pos → Terminals
+terminals_of_span text start end pos = terminals true start pos (span_of text start end)
+
+-- the expression of a span whose first byte has a place, or the fault where reading it stops
+abbrev pub read_span : List ℕ → ℕ → ℕ → Pos → Result Expr Fault
+read_span text start end pos =
+    judged (place_after pos (span_of text start end)) (terminals_of_span text start end pos) (expression bounded (terminals_of_span text start end pos).tokens)
+
+-- a span is this expression
+pub record ReadsSpan (text : List ℕ) (start end : ℕ) (pos : Pos) (x : Expr) : Type 0 where
+  pub faultless : (terminals_of_span text start end pos).fault ≡ None
+  pub reads : ReadsExpr (terminals_of_span text start end pos).tokens x
+
+-- the first fault of a span
+pub record IsFirstFaultOfSpan (text : List ℕ) (start end : ℕ) (pos : Pos) (f : Fault) : Type 0 where
+  pub stops : read_span text start end pos ≡ Err f
+
+-- what is answered of a span, unless memory runs out
+abbrev pub AnswersSpan : List ℕ → ℕ → ℕ → Pos → Result Expr ParseFault → Type 0
+AnswersSpan text start end pos (Ok x) = ReadsSpan text start end pos x
+AnswersSpan text start end pos (Err (parse_fault.At f)) = IsFirstFaultOfSpan text start end pos f
+AnswersSpan text start end pos (Err parse_fault.Memory) = ⊤
