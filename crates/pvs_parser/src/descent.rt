@@ -32,7 +32,12 @@ where
     E: Fn(Global, usize, Start, Nesting, &[Terminal]) -> Read<'_, Expr>,
     T: Fn(Global, usize, Nesting, &[Terminal]) -> Read<'_, TypeExpr>,
 {
-    pub fn start<'a>(&self, start: Start, nesting: Nesting, tokens: &'a [Terminal]) -> Read<'a, Expr>
+    pub fn start<'a>(
+        &self,
+        start: Start,
+        nesting: Nesting,
+        tokens: &'a [Terminal],
+    ) -> Read<'a, Expr>
         requires { Nests self.now.room (E.pre self.now.expr) (E.post self.now.expr) (T.pre self.now.ty) (T.post self.now.ty) }
         ensures { Gives (λ p. (p.0, p.1, p.2.now)) result ((below self.now.room).expr start nesting tokens.now) }
     {
@@ -47,7 +52,7 @@ where
         self.start(Start::Chain(Connective::Iff), nesting, tokens)
     }
 
-    pub fn ty<'a>(&self, nesting: Nesting, tokens: &'a [Terminal]) -> Read<'a, TypeExpr>
+    pub fn type_expr<'a>(&self, nesting: Nesting, tokens: &'a [Terminal]) -> Read<'a, TypeExpr>
         requires { Nests self.now.room (E.pre self.now.expr) (E.post self.now.expr) (T.pre self.now.ty) (T.post self.now.ty) }
         ensures { Gives (λ p. (p.0, p.1, p.2.now)) result ((below self.now.room).type nesting tokens.now) }
     {

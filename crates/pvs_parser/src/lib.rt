@@ -1,14 +1,22 @@
 //! Reads texts of the language: units, and expressions that stand in quotes.
 #![tactic(auto)]
 
+mod branches;
 mod descent;
 mod failure;
+mod items;
+mod lists;
+mod names;
 mod nesting;
+mod operands;
+mod prefixes;
 mod start;
 mod tables;
 mod terminal;
+mod terms;
 mod tokens;
 mod trees;
+mod types;
 
 pub use failure::{Failure, ParseFault, Reason, Stop};
 pub use nesting::Nesting;

@@ -12,9 +12,7 @@ use crate::nesting::Nesting;
 use crate::terminal::{Terminal, TerminalKind};
 use crate::tokens::{expect, id, number, stop};
 use pvs_base::Pos;
-use pvs_syntax::{
-    Actual, Binding, Expr, InfixWord, InstExpr, LetPart, NameExpr, TypeExpr, Word,
-};
+use pvs_syntax::{Actual, Binding, Expr, InfixWord, InstExpr, LetPart, NameExpr, TypeExpr, Word};
 use sqlite_items::{Boxed, Items};
 use std::alloc::{AllocError, Global};
 
@@ -60,6 +58,14 @@ pub fn typed(word: Word, ty: TypeExpr) -> Binding
     Binding { word, ty: Some(ty) }
 }
 
+/// A variable of a binder without parentheses.
+pub fn bare_variable(nesting: Nesting, tokens: &[Terminal]) -> Read<'_, Binding>
+    ensures { Gives (λ p. (p.0, p.1, p.2.now)) result (spec.bare_variable nesting tokens.now) }
+{
+    let (word, rest) = id(tokens)?;
+    Ok((untyped(word), nesting, rest))
+}
+
 pub fn equation(word: Word, ty: Option<TypeExpr>, value: Expr) -> LetPart
     ensures { result ≡ language.equation word ty value }
 {
@@ -77,12 +83,7 @@ pub fn empty(word: Word) -> Word
     }
 }
 
-pub fn infix(
-    alloc: Global,
-    word: InfixWord,
-    left: Expr,
-    right: Expr,
-) -> Result<Expr, AllocError>
+pub fn infix(alloc: Global, word: InfixWord, left: Expr, right: Expr) -> Result<Expr, AllocError>
     ensures { IfOk result (λ x. x ≡ the_expr.Infix word left right) }
 {
     let left = Boxed::new(alloc, left)?;
