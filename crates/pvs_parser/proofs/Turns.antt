@@ -7,7 +7,9 @@ use Rattle.pvs_parser.specs.declared.failure.Stop.{Stop}
 use Rattle.pvs_parser.specs.declared.nesting.Nesting.{Nesting}
 use Rattle.pvs_parser.specs.declared.terminal.TerminalKind.TheVariants as kind
 use Rattle.pvs_parser.specs.Language.{Tokens, cleared}
-use Rattle.pvs_parser.specs.Descent.{Answer, Fails, Gives, Read, ◌>>=◌, either, after, too_many, crowded, list_from}
+use Rattle.pvs_syntax.specs.declared.expression.Expr.{Expr}
+use Rattle.pvs_syntax.specs.declared.expression.Expr.TheVariants as expr
+use Rattle.pvs_parser.specs.Descent.{Answer, Fails, Gives, Go, Read, ◌>>=◌, either, after, too_many, crowded, list_from, call_with, project, term_from, compares, mark, begins, last_with, term_with, compared_from}
 use Rattle.pvs_parser.specs.Nests.{crowded_by}
 
 pub one_more : {X : Type 0} {x : X} (f : ℕ → X) (n at : ℕ) → at < n → x ≡ f (n - at) → x ≡ f (suc (n - (at + 1)))
@@ -39,3 +41,29 @@ pub crowded_fails : {X A : Type 0} (B : Type 0) (view : X → A) (ts : Tokens) (
 crowded_fails B view ts (Ok x) read e = ap (crowded ts) e
 crowded_fails B view ts (Err failure.Memory) read e = tt
 crowded_fails B view ts (Err (failure.At s)) read e = rw e (crowded_of B ts s (s.left == length ts))
+
+-- what stands behind a term
+pub term_turn : {x : Read Expr} (go : Go) (n at : ℕ) (b : Bool) (y : Expr) (l : Nesting) (ts : Tokens)
+    → at < n → x ≡ term_from go (n - at) b y l ts
+    → x ≡ either (after kind.Open ts) (λ us. call_with go b y l us >>= λ p. term_from go (n - (at + 1)) true p.0 p.1 p.2)
+    (either (after kind.Backquote ts) (λ us. project go.limit y l us >>= λ p. term_from go (n - (at + 1)) true p.0 p.1 p.2) (Ok (y, l, ts)))
+unfolding term_from
+term_turn go n at b y l ts below e = one_more (λ m. term_from go m b y l ts) n at below e
+
+pub term_end : {x : Read Expr} (go : Go) (n at : ℕ) (b : Bool) (y : Expr) (l : Nesting) (ts : Tokens) → n ≤ at → x ≡ term_from go (n - at) b y l ts → x ≡ Ok (y, l, ts)
+unfolding term_from
+term_end go n at b y l ts done e = no_more (λ m. term_from go m b y l ts) n at done e
+
+-- what a term is compared with
+pub compared_turn : {x : Read Expr} (go : Go) (n at : ℕ) (y : Expr) (l : Nesting) (ts : Tokens)
+    → at < n → x ≡ compared_from go (n - at) y l ts
+    → x ≡ either (compares ts)
+    (λ p. mark go.limit l p.1 >>= λ m. either (begins p.1) (λ q. last_with go p.0 y m q.0 q.1 q.2)
+    (term_with go m p.1 >>= λ r. compared_from go (n - (at + 1)) (expr.Infix p.0 y r.0) r.1 r.2))
+    (Ok (y, l, ts))
+unfolding compared_from
+compared_turn go n at y l ts below e = one_more (λ m. compared_from go m y l ts) n at below e
+
+pub compared_end : {x : Read Expr} (go : Go) (n at : ℕ) (y : Expr) (l : Nesting) (ts : Tokens) → n ≤ at → x ≡ compared_from go (n - at) y l ts → x ≡ Ok (y, l, ts)
+unfolding compared_from
+compared_end go n at y l ts done e = no_more (λ m. compared_from go m y l ts) n at done e
