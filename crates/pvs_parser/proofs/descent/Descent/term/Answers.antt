@@ -24,8 +24,9 @@ pub loop-preserved : goal.loop-preserved
 loop-preserved g c =
     let e = term_turn (below c.args.self.now.room) (length c.args.tokens.now) c.loop.counter c.loop.is_closed c.loop.term c.loop.nesting c.loop.rest.now c.loop-test.true c.loop.invariant in
     elim c.match-after.branch [
-        in-Some+in_ok-term-2 w ↦ first_of (search rules, grind (arith, common_steps))
-        | in_default+in-Some-after+in_ok-term-3 w ↦ first_of (search rules, grind (arith, common_steps)) ]
+      | in-Some+in_ok-term-2 w ↦ first_of (search rules, grind (arith, common_steps))
+      | in_default+in-Some-after+in_ok-term-3 w ↦ first_of (search rules, grind (arith, common_steps))
+    ]
 
 pub returns : goal.returns
 returns g c = term_end (below c.args.self.now.room) (length c.args.tokens.now) c.loop.counter c.loop.is_closed c.loop.term c.loop.nesting c.loop.rest.now c.loop-test.false c.loop.invariant
