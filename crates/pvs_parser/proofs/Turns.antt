@@ -1,5 +1,5 @@
 -- A recursion on a count of turns, beside a loop that counts up.
-use Rattle.std.proofs.Common.{◌≡◌, ℕ, zero, suc, ◌+◌, ◌-◌, ◌<◌, ◌≤◌, ◌==◌, Bool, true, false, if◌then◌else◌, List, [], ◌∷◌, ◌++◌, length, Result, Ok, Err, refl, ap, ◌∙◌, arith}
+use Rattle.std.proofs.Common.{◌≡◌, ℕ, zero, suc, ◌+◌, ◌-◌, ◌<◌, ◌≤◌, ◌==◌, Bool, true, false, if◌then◌else◌, List, [], ◌∷◌, ◌++◌, length, Option, Some, None, Result, Ok, Err, refl, ap, ◌∙◌, arith}
 use Rattle.pvs_parser.specs.declared.failure.Failure.{Failure}
 use Rattle.pvs_parser.specs.declared.failure.Failure.TheVariants as failure
 use Rattle.pvs_parser.specs.declared.failure.Reason.TheVariants as reason
@@ -24,6 +24,11 @@ pub list_turn : {A : Type 0} {x : Read (List A)} (reads : Nesting → Tokens →
     → x ≡ (reads l ts >>= λ p. either (after kind.Comma p.2) (λ us. list_from reads (n - (at + 1)) (found ++ p.0 ∷ []) (cleared p.1) us) (Ok (found ++ p.0 ∷ [], p.1, p.2)))
 unfolding list_from
 list_turn reads n at found l ts below e = one_more (λ m. list_from reads m found l ts) n at below e
+
+pub list_goes : {A : Type 0} {x : Read (List A)} (reads : Nesting → Tokens → Read A) (n at : ℕ) (found : List A) (l m : Nesting) (ts us vs : Tokens) (a : A)
+    → at < n → x ≡ list_from reads (n - at) found l ts → reads l ts ≡ Ok (a, m, us) → after kind.Comma us ≡ Some vs
+    → x ≡ list_from reads (n - (at + 1)) (found ++ a ∷ []) (cleared m) vs
+list_goes reads n at found l m ts us vs a below e read comma = list_turn reads n at found l ts below e ∙ rw (read, comma) refl
 
 -- a list, where no more entries may come
 pub list_end : {A : Type 0} {x : Read (List A)} (reads : Nesting → Tokens → Read A) (n at : ℕ) (found : List A) (l : Nesting) (ts : Tokens)
