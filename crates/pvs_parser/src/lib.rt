@@ -18,6 +18,7 @@ mod tokens;
 mod trees;
 mod types;
 
+pub use descent::expression;
 pub use failure::{Failure, ParseFault, Reason, Stop};
 pub use nesting::Nesting;
 pub use start::Start;
