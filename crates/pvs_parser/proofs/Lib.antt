@@ -1,2 +1,14 @@
 pub mod Turns
+pub mod DescentTurns
 pub mod Knot
+pub mod Yields
+pub mod Follows
+pub mod DescentSteps
+pub mod Nonempty
+pub mod Heads
+pub mod DescentSound
+pub mod Gets
+pub mod DescentComplete
+pub mod Wholes
+pub mod OneExpression
+pub mod Worked

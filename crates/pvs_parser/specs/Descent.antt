@@ -1,5 +1,5 @@
 -- Reading expressions and types from left to right. Where the tokens do not begin so, or nest too deep, reading stops.
-use Rattle.std.specs.Prelude.{◌≡◌, ℕ, zero, suc, ◌+◌, ◌==◌, nat_lt, Bool, true, false, if◌then◌else◌, List, [], ◌∷◌, ◌++◌, length, Option, Some, None, Result, Ok, Err, ⊤}
+use Rattle.std.specs.Prelude.{◌≡◌, ℕ, zero, suc, ◌+◌, ◌||◌, nat_lt, Bool, true, false, if◌then◌else◌, List, [], ◌∷◌, ◌++◌, length, Option, Some, None, Result, Ok, Err, ⊤}
 use Rattle.pvs_parser.specs.declared.failure.Failure.{Failure}
 use Rattle.pvs_parser.specs.declared.failure.Failure.TheVariants as failure
 use Rattle.pvs_parser.specs.declared.failure.Reason.TheVariants as reason
@@ -27,7 +27,7 @@ use Rattle.pvs_syntax.specs.declared.expression.NameExpr.{NameExpr}
 use Rattle.pvs_syntax.specs.declared.expression.TypeExpr.{TypeExpr}
 use Rattle.pvs_syntax.specs.declared.expression.TypeExpr.TheVariants as type_expr
 use Rattle.pvs_parser.specs.Terminals.{is_id, same_kind}
-use Rattle.pvs_parser.specs.Language.{Limit, bounded, outermost, level, marked, held, inside, cleared, named, qualified, instance, untyped, typed, equation, empty, grouped, sign, operator, comparison, binder_word, begins_type, Item, Expression, Parameter, Component, Variable, BareVariable, Definition, ItemTree, Tokens}
+use Rattle.pvs_parser.specs.Language.{Limit, outermost, level, marked, held, inside, cleared, named, qualified, instance, untyped, typed, equation, empty, grouped, sign, operator, comparison, binder_word, begins_type, Item, Expression, Parameter, Component, Variable, BareVariable, Definition, ItemTree, Tokens}
 
 -- what is read, or where reading stops
 abbrev pub Answer : Type 0 → Type 0
@@ -186,15 +186,46 @@ item_with go Definition l ts = definition_with go l ts
 
 -- ---- Lists.
 
--- Behind the most entries that a list may have: one more that begins here is one too many.
-abbrev pub crowded : {A B : Type 0} → Tokens → Answer A → Answer B
-crowded ts (Ok x) = too_many ts
-crowded ts (Err s) = if s.left == length ts then Err s else too_many ts
+-- Behind the most entries that a list may have: a terminal that may begin one more is one too many.
+abbrev pub crowded : {A : Type 0} → (TerminalKind → Bool) → Tokens → Answer A
+crowded starts [] = stop []
+crowded starts (t ∷ ts) = if starts t.kind then too_many (t ∷ ts) else stop (t ∷ ts)
 
 -- items with commas between them, behind those found; at most so many
-unfoldable pub list_from : {A : Type 0} → (Nesting → Tokens → Read A) → ℕ → List A → Nesting → Tokens → Read (List A)
-list_from reads zero found l ts = crowded ts (reads l ts)
-list_from reads (suc room) found l ts = reads l ts >>= λ p. either (after kind.Comma p.2) (λ us. list_from reads room (found ++ p.0 ∷ []) (cleared p.1) us) (Ok (found ++ p.0 ∷ [], p.1, p.2))
+unfoldable pub list_from : {A : Type 0} → (TerminalKind → Bool) → (Nesting → Tokens → Read A) → ℕ → List A → Nesting → Tokens → Read (List A)
+list_from starts reads zero found l ts = crowded starts ts
+list_from starts reads (suc room) found l ts = reads l ts >>= λ p. either (after kind.Comma p.2) (λ us. list_from starts reads room (found ++ p.0 ∷ []) (cleared p.1) us) (Ok (found ++ p.0 ∷ [], p.1, p.2))
+
+-- the terminals that may begin an expression, a type, and an item of a list
+abbrev pub starts_expr : TerminalKind → Bool
+starts_expr kind.Not = true
+starts_expr kind.Forall = true
+starts_expr kind.Exists = true
+starts_expr kind.Lambda = true
+starts_expr kind.Let = true
+starts_expr kind.True = true
+starts_expr kind.False = true
+starts_expr kind.Id = true
+starts_expr kind.Proof = true
+starts_expr kind.Open = true
+starts_expr kind.If = true
+starts_expr _ = false
+
+abbrev pub starts_type : TerminalKind → Bool
+starts_type kind.Id = true
+starts_type kind.Proof = true
+starts_type kind.Open = true
+starts_type kind.OpenBracket = true
+starts_type kind.OpenBrace = true
+starts_type _ = false
+
+abbrev pub starts_item : Item → TerminalKind → Bool
+starts_item Expression k = starts_expr k
+starts_item Parameter k = starts_expr k || begins_type k
+starts_item Component k = starts_type k
+starts_item Variable k = is_id k
+starts_item BareVariable k = is_id k
+starts_item Definition k = is_id k
 
 -- how many entries a list of these tokens may have
 abbrev pub entries : Limit → Tokens → ℕ
@@ -202,7 +233,7 @@ entries (Some most) ts = most
 entries None ts = length ts
 
 abbrev pub list_with : Go → (i : Item) → Nesting → Tokens → Read (List (ItemTree i))
-list_with go i l ts = list_from (item_with go i) (entries go.limit ts) [] l ts
+list_with go i l ts = list_from (starts_item i) (item_with go i) (entries go.limit ts) [] l ts
 
 -- a list in a frame, up to the sign that ends it
 abbrev pub framed_with : Go → (i : Item) → TerminalKind → Nesting → Tokens → Answer (List (ItemTree i) × Tokens)
@@ -221,9 +252,6 @@ instance_name_with go w l ts = framed_with go Parameter kind.CloseBracket l ts >
 abbrev pub name_after : Go → Word → Nesting → Tokens → Answer (NameExpr × Tokens)
 name_after go w l ts = either (after kind.OpenBracket ts) (λ us. instance_name_with go w l us)
     (either (after kind.Dot ts) (λ us. name_of w [] us) (Ok (named w, ts)))
-
-abbrev pub name_with : Go → Nesting → Tokens → Answer (NameExpr × Tokens)
-name_with go l ts = id ts >>= λ p. name_after go p.0 l p.1
 
 -- ---- Terms.
 

@@ -28,7 +28,7 @@ use Rattle.pvs_syntax.specs.declared.expression.LetPart.{LetPart, roll-LetPart}
 use Rattle.pvs_syntax.specs.declared.expression.NameExpr.{NameExpr, roll-NameExpr}
 use Rattle.pvs_syntax.specs.declared.expression.TypeExpr.{TypeExpr}
 use Rattle.pvs_syntax.specs.declared.expression.TypeExpr.TheVariants as type_expr
-use Rattle.pvs_parser.specs.Terminals.{Is, IsId, is_id}
+use Rattle.pvs_parser.specs.Terminals.{Is, IsId}
 
 -- ---- Levels.
 

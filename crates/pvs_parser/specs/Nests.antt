@@ -1,12 +1,13 @@
 -- Function values that read the expressions and the types that stand deeper.
-use Rattle.std.specs.Prelude.{ℕ, ◌+◌, ◌==◌, if◌then◌else◌, length, Result, Ok, Err}
+use Rattle.std.specs.Prelude.{ℕ, Bool, true, false, [], ◌∷◌, length, Result}
 use Rattle.std.specs.declared.alloc.Global.{Global}
 use denote.Ref.{Bor}
 use Rattle.pvs_parser.specs.declared.failure.Failure.{Failure}
-use Rattle.pvs_parser.specs.declared.failure.Failure.TheVariants as failure
 use Rattle.pvs_parser.specs.declared.failure.Reason.TheVariants as reason
+use Rattle.pvs_parser.specs.declared.failure.Stop.{Stop}
 use Rattle.pvs_parser.specs.declared.nesting.Nesting.{Nesting}
 use Rattle.pvs_parser.specs.declared.start.Start.{Start}
+use Rattle.pvs_parser.specs.declared.terminal.TerminalKind.{TerminalKind}
 use Rattle.pvs_syntax.specs.declared.expression.Expr.{Expr}
 use Rattle.pvs_syntax.specs.declared.expression.TypeExpr.{TypeExpr}
 use Rattle.pvs_parser.specs.Language.{bounded, Tokens}
@@ -31,8 +32,12 @@ pub record Nests (room : ℕ) (pre_expr : Global → ℕ → Start → Nesting �
   pub type_gives : (alloc : Global) (l : Nesting) (ts : Bor Tokens) (r : Returned TypeExpr) → post_type alloc room l ts r
       → Gives (λ p. (p.0, p.1, p.2.now)) r ((reader bounded room).type l ts.now)
 
--- why reading stopped behind the most items that a list may have, where reading one more returned this
-abbrev pub crowded_by : {A : Type 0} → Tokens → Result A Failure → Failure
-crowded_by ts (Ok x) = failure.At (record { left = length ts; reason = reason.TooNested })
-crowded_by ts (Err failure.Memory) = failure.Memory
-crowded_by ts (Err (failure.At s)) = if s.left == length ts then failure.At s else failure.At (record { left = length ts; reason = reason.TooNested })
+-- whether such a terminal comes next
+abbrev pub comes : (TerminalKind → Bool) → Tokens → Bool
+comes starts [] = false
+comes starts (t ∷ ts) = starts t.kind
+
+-- where a list stops behind the most items that it may have, as one more may begin or not
+abbrev pub crowded_at : Bool → Tokens → Stop
+crowded_at true ts = record { left = length ts; reason = reason.TooNested }
+crowded_at false ts = record { left = length ts; reason = reason.Unexpected }

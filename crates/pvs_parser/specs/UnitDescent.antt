@@ -45,7 +45,7 @@ name l ts = id ts >>= λ p. Ok (p.0, l, p.1)
 
 -- identifiers with commas between them
 abbrev pub ids : Limit → Tokens → Answer (List Word × Tokens)
-ids limit ts = list_from name (entries limit ts) [] outermost ts >>= λ p. Ok (p.0, p.2)
+ids limit ts = list_from is_id name (entries limit ts) [] outermost ts >>= λ p. Ok (p.0, p.2)
 
 -- actuals behind a bracket
 abbrev pub actuals : Limit → Tokens → Answer (List Actual × Tokens)
@@ -84,7 +84,7 @@ formal limit ts = ids limit ts >>= λ p. expect kind.Colon p.1 >>= λ us. formal
 
 -- formals with commas between them, behind those found; at most so many
 unfoldable pub formals_from : Limit → ℕ → List Formal → Tokens → Answer (List Formal × Tokens)
-formals_from limit zero found ts = crowded ts (formal limit ts)
+formals_from limit zero found ts = crowded is_id ts
 formals_from limit (suc room) found ts = formal limit ts >>= λ p. either (after kind.Comma p.1) (λ us. formals_from limit room (found ++ p.0) us) (Ok (found ++ p.0, p.1))
 
 -- formals behind a bracket

@@ -166,7 +166,7 @@ pub data DerivesTheory (limit : Limit) (text : List ℕ) : Tokens → Theory →
   theory : (ts us vs : Tokens) (fs : List Formal) (hs ds : List Decl) (t u v w x y : Terminal) → IsId t → DerivesFormalPart limit ts fs → Is kind.Colon u → Is kind.Theory v → Is kind.Begin w
       → DerivesAssuming limit us hs → DerivesMany (DerivesDecl limit) vs ds → Is kind.End x → IsId y → spelling text t.word ≡ spelling text y.word
       → DerivesTheory limit text (t ∷ (ts ++ u ∷ v ∷ w ∷ (us ++ (vs ++ x ∷ y ∷ []))))
-          (record { name = t.word; formals = fs; assuming = hs; decls = ds; end = y.word.end })
+      (record { name = t.word; formals = fs; assuming = hs; decls = ds; end = y.word.end })
 
 -- ---- Proofs.
 
@@ -187,7 +187,7 @@ pub data Balanced (limit : Limit) : ℕ → Tokens → Type 0 where
 pub data DerivesProof (limit : Limit) : Tokens → Proof → Type 0 where
   proof : (ts : Tokens) (t u v w x y z c : Terminal) → Is kind.Open t → Is kind.Proof u → IsId v → Is kind.Dot w → IsId x → Is kind.Open y → IsBelow limit 0 → Balanced limit 1 ts → Is kind.Close z → Is kind.Close c
       → DerivesProof limit (t ∷ u ∷ v ∷ w ∷ x ∷ y ∷ (ts ++ z ∷ c ∷ []))
-          (record { theory = v.word; formula = x.word; start = y.word.start; end = z.word.end; pos = y.word.pos })
+      (record { theory = v.word; formula = x.word; start = y.word.start; end = z.word.end; pos = y.word.pos })
 
 -- ---- Units.
 

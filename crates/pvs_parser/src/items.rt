@@ -9,7 +9,7 @@ use crate::descent::{Descent, Read};
 use crate::nesting::Nesting;
 use crate::start::Start;
 use crate::terminal::{Terminal, TerminalKind};
-use crate::tokens::{after, comes_type, expect, id, labels, stop};
+use crate::tokens::{after, comes_type_actual, expect, id, labels, stop};
 use crate::trees::{empty, equation, typed, untyped};
 use pvs_syntax::{Actual, Binding, Expr, LetPart, TypeExpr, Word};
 use std::alloc::Global;
@@ -24,7 +24,7 @@ where
         requires { Nests self.now.room (E.pre self.now.expr) (E.post self.now.expr) (T.pre self.now.ty) (T.post self.now.ty) }
         ensures { Gives (λ p. (p.0, p.1, p.2.now)) result (spec.parameter_with (below self.now.room) nesting tokens.now) }
     {
-        if comes_type(tokens) {
+        if comes_type_actual(tokens) {
             let (ty, nesting, rest) = self.type_expr(nesting, tokens)?;
             return Ok((Actual::TypeActual(ty), nesting, rest));
         }

@@ -4,6 +4,7 @@
 mod branches;
 mod descent;
 mod failure;
+mod grammar;
 mod items;
 mod lists;
 mod names;
@@ -20,6 +21,7 @@ mod types;
 
 pub use descent::expression;
 pub use failure::{Failure, ParseFault, Reason, Stop};
+pub use grammar::one_expression;
 pub use nesting::Nesting;
 pub use start::Start;
 pub use terminal::{Connective, Prefix, Terminal, TerminalKind};

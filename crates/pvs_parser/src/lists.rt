@@ -4,29 +4,31 @@ ghost use Rattle.std.specs.Prelude.{◌≡◌};
 ghost use Rattle.pvs_parser.specs.Descent.{Gives};
 ghost use Rattle.pvs_parser.specs.Descent as spec;
 ghost use Rattle.pvs_parser.specs.Language.{Expression, Parameter, Component, Variable, BareVariable, Definition};
-ghost use Rattle.pvs_parser.specs.Nests.{Nests, below, crowded_by};
+ghost use Rattle.pvs_parser.specs.Nests.{Nests, below, crowded_at};
 
 use crate::descent::{Descent, Read};
 use crate::failure::Failure;
 use crate::nesting::Nesting;
 use crate::start::Start;
 use crate::terminal::{Terminal, TerminalKind};
-use crate::tokens::{after, expect, too_many};
+use crate::tokens::{
+    after, comes_expr, comes_id, comes_type, comes_type_actual, expect, stop, too_many,
+};
 use crate::trees::bare_variable;
 use pvs_base::MAX_LIST;
 use pvs_syntax::{Actual, Binding, Expr, LetPart, TypeExpr};
 use sqlite_items::Items;
 use std::alloc::Global;
 
-/// Why reading stops behind the most items that a list may have: one more that begins there is one
-/// too many.
-fn crowded<A: Drop>(next: Read<'_, A>, tokens: &[Terminal]) -> Failure
-    ensures { result ≡ crowded_by tokens.now next.entry }
+/// Why reading stops behind the most items that a list may have. Where one more may begin, as
+/// `is_start` says, that is one too many.
+fn crowded(is_start: bool, tokens: &[Terminal]) -> Failure
+    ensures { result ≡ Failure.At (crowded_at is_start tokens.now) }
 {
-    match next {
-        Err(Failure::Memory) => Failure::Memory,
-        Err(Failure::At(stop)) if stop.left == tokens.len() => Failure::At(stop),
-        _ => too_many(tokens),
+    if is_start {
+        too_many(tokens)
+    } else {
+        stop(tokens)
     }
 }
 
@@ -52,7 +54,7 @@ where
             nesting = behind.cleared();
             rest = next;
         }
-        Err(crowded(self.expr(nesting, rest), rest))
+        Err(crowded(comes_expr(rest), rest))
     }
 
     /// Actual parameters.
@@ -72,7 +74,7 @@ where
             nesting = behind.cleared();
             rest = next;
         }
-        Err(crowded(self.parameter(nesting, rest), rest))
+        Err(crowded(comes_expr(rest) || comes_type_actual(rest), rest))
     }
 
     /// Components of a domain or of a tuple type.
@@ -96,7 +98,7 @@ where
             nesting = behind.cleared();
             rest = next;
         }
-        Err(crowded(self.component(nesting, rest), rest))
+        Err(crowded(comes_type(rest), rest))
     }
 
     /// Variables with or without types.
@@ -116,7 +118,7 @@ where
             nesting = behind.cleared();
             rest = next;
         }
-        Err(crowded(self.variable(nesting, rest), rest))
+        Err(crowded(comes_id(rest), rest))
     }
 
     /// Variables without types.
@@ -140,7 +142,7 @@ where
             nesting = behind.cleared();
             rest = next;
         }
-        Err(crowded(bare_variable(nesting, rest), rest))
+        Err(crowded(comes_id(rest), rest))
     }
 
     /// Parts of a LET.
@@ -164,7 +166,7 @@ where
             nesting = behind.cleared();
             rest = next;
         }
-        Err(crowded(self.definition(nesting, rest), rest))
+        Err(crowded(comes_id(rest), rest))
     }
 
     /// Expressions up to the parenthesis that ends them.

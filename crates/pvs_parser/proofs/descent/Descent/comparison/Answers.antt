@@ -1,7 +1,7 @@
 use Rattle.std.proofs.Common.{length, rules, arith}
 use Rattle.std.proofs.lemmas.Grind.{common_steps}
 use Rattle.pvs_parser.specs.Nests.{below}
-use Rattle.pvs_parser.proofs.Turns.{compared_turn, compared_end}
+use Rattle.pvs_parser.proofs.DescentTurns.{compared_turn, compared_end}
 use Rattle.pvs_parser.proofs.descent.Descent.comparison.Goals as goal
 
 pub returns-in_default : goal.returns-in_default

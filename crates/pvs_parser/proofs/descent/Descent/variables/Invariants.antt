@@ -6,4 +6,4 @@ use Rattle.pvs_parser.proofs.descent.Descent.variables.Given as goal
 
 -- reading goes on from here
 abbrev pub invariant-loop : goal.invariant-loop
-invariant-loop g l = spec.list_with (below l.self.room) Variable l.fn.nesting l.fn.tokens ≡ spec.list_from (spec.item_with (below l.self.room) Variable) (200 - l.counter) l.found l.nesting l.rest
+invariant-loop g l = spec.list_with (below l.self.room) Variable l.fn.nesting l.fn.tokens ≡ spec.list_from (spec.starts_item Variable) (spec.item_with (below l.self.room) Variable) (200 - l.counter) l.found l.nesting l.rest
