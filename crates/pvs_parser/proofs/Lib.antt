@@ -2,6 +2,8 @@ pub mod Spans
 pub mod UnitTurns
 pub mod Each
 pub mod Turns
+pub mod DescentTurns
+pub mod Knot
 pub mod Yields
 pub mod Follows
 pub mod DescentSteps
@@ -26,3 +28,4 @@ pub mod Scripts
 pub mod WholeUnits
 pub mod Texts
 pub mod ScriptSpans
+pub mod Answers

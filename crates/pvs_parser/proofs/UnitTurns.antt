@@ -1,10 +1,9 @@
 -- Recursions on a count of turns, beside loops that count up.
-use Rattle.std.proofs.Common.{◌≡◌, ℕ, zero, suc, ◌+◌, ◌-◌, ◌<◌, ◌≤◌, List, [], ◌∷◌, ◌++◌, length, ◌==◌, true, false, if◌then◌else◌, Some, None, Ok, Err, ap, ◌∙◌, refl, arith}
-use Rattle.pvs_parser.specs.declared.failure.Failure.{Failure}
-use Rattle.pvs_parser.specs.declared.failure.Failure.TheVariants as failure
-use Rattle.pvs_parser.specs.declared.failure.Reason.TheVariants as reason
+use Rattle.std.proofs.Common.{◌≡◌, ℕ, zero, suc, ◌+◌, ◌-◌, ◌<◌, ◌≤◌, List, [], ◌∷◌, ◌++◌, length, Bool, true, false, if◌then◌else◌, Some, None, Ok, Err, ap, ◌∙◌, refl, arith}
 use Rattle.pvs_parser.specs.declared.failure.Stop.{Stop}
 use Rattle.pvs_parser.specs.declared.nesting.Nesting.{Nesting}
+use Rattle.pvs_parser.specs.declared.terminal.Terminal.{Terminal}
+use Rattle.pvs_parser.specs.declared.terminal.TerminalKind.{TerminalKind}
 use Rattle.pvs_parser.specs.declared.terminal.TerminalKind.TheVariants as kind
 use Rattle.pvs_syntax.specs.declared.word.Word.{Word}
 use Rattle.pvs_syntax.specs.declared.expression.InstExpr.{InstExpr}
@@ -14,13 +13,14 @@ use Rattle.pvs_syntax.specs.declared.unit.Item.{Item}
 use Rattle.pvs_syntax.specs.declared.unit.Unit as tree
 use Rattle.pvs_parser.specs.declared.declarations.Part.{Part}
 use Rattle.pvs_parser.specs.Language.{Limit, bounded, Tokens, outermost}
-use Rattle.pvs_parser.specs.Descent.{Answer, ◌>>=◌, either, after, id, crowded, stop, ended, too_many, Fails, list_from}
-use Rattle.pvs_parser.specs.Steps.{where_full, declares}
+use Rattle.pvs_parser.specs.Descent.{Answer, Read, ◌>>=◌, either, after, id, crowded, stop, ended, too_many, list_from}
+use Rattle.pvs_parser.specs.Nests.{comes, crowded_at}
+use Rattle.pvs_parser.specs.Terminals.{is_id}
+use Rattle.pvs_parser.specs.Steps.{declares}
 use Rattle.pvs_parser.specs.UnitDescent as spec
 use Rattle.pvs_parser.specs.UnitDescent.{instances_from, inst, formals_from, formal, many_from, comes_decl, past_semicolon, items_from, one_item}
 
-pub one_more : {X : Type 0} {x : X} (f : ℕ → X) (n at : ℕ) → at < n → x ≡ f (n - at) → x ≡ f (suc (n - (at + 1)))
-one_more f n at below e = let turn : n - at ≡ suc (n - (at + 1)) = omega arith in e ∙ ap f turn
+turn : n - at ≡ suc (n - (at + 1)) = omega arith in e ∙ ap f turn
 
 turn : {X : Type 0} (f : ℕ → X) (n at : ℕ) → at < n → f (n - at) ≡ f (suc (n - (at + 1)))
 turn f n at below = let e : n - at ≡ suc (n - (at + 1)) = omega arith in ap f e
@@ -30,17 +30,18 @@ full f n at above = let e : n - at ≡ 0 = omega arith in ap f e
 
 -- ---- Lists with no room.
 
--- a list that is full fails so, whatever else is made of what it gives
-fails_full : {A B : Type 0} (C : Type 0) (ts : Tokens) (s : Stop) (f : A → Answer B) → Fails (where_full ts (failure.At s)) (crowded {A = C} ts (Err s) >>= f)
-fails_full C ts s f = elim (s.left == length ts) as (λ b. Fails (if b then failure.At s else failure.At (record { left = length ts; reason = reason.TooNested })) ((if b then Err s else too_many ts) >>= f)) [ true ↦ refl | false ↦ refl ]
+crowded_of : (A : Type 0) (t : Terminal) (ts : Tokens) (b : Bool) → (if b then too_many {A = A} (t ∷ ts) else stop (t ∷ ts)) ≡ Err (crowded_at b (t ∷ ts))
+crowded_of A t ts true = refl
+crowded_of A t ts false = refl
 
-crowded_fails : (A C : Type 0) (ts : Tokens) (s : Stop) → Fails {Y = A} (where_full ts (failure.At s)) (crowded {A = C} {B = A} ts (Err s))
-crowded_fails A C ts s = elim (s.left == length ts) as (λ b. Fails {Y = A} (if b then failure.At s else failure.At (record { left = length ts; reason = reason.TooNested })) (if b then Err s else too_many ts)) [ true ↦ refl | false ↦ refl ]
+crowded_is : (A : Type 0) (starts : TerminalKind → Bool) (ts : Tokens) → crowded {A = A} starts ts ≡ Err (crowded_at (comes starts ts) ts)
+crowded_is A starts [] = refl
+crowded_is A starts (t ∷ ts) = crowded_of A t ts (starts t.kind)
 
 -- ---- Identifiers with commas between them, behind those found.
 
 unfoldable pub ids_from : ℕ → List Word → Tokens → Answer (List Word × Tokens)
-ids_from room found ts = list_from spec.name room found outermost ts >>= λ p. Ok (p.0, p.2)
+ids_from room found ts = list_from is_id spec.name room found outermost ts >>= λ p. Ok (p.0, p.2)
 
 pub ids_init : (found : List Word) (ts : Tokens) → found ≡ [] → spec.ids bounded ts ≡ ids_from 200 found ts
 unfolding ids_from
@@ -59,14 +60,10 @@ pub ids_next : (n at : ℕ) (found : List Word) (ts us vs : Tokens) (w : Word) �
 unfolding ids_from list_from
 ids_next n at found ts us vs w below e a = turn (λ k. ids_from k found ts) n at below ∙ rw (e, a) refl
 
-pub ids_many : (n at : ℕ) (found : List Word) (ts us : Tokens) (w : Word) → n ≤ at → id ts ≡ Ok (w, us) → ids_from (n - at) found ts ≡ too_many ts
+pub ids_full : (n at : ℕ) (found : List Word) (ts : Tokens) → n ≤ at → ids_from (n - at) found ts ≡ Err (crowded_at (comes is_id ts) ts)
 unfolding ids_from list_from
-ids_many n at found ts us w above e = full (λ k. ids_from k found ts) n at above ∙ rw e refl
-
-pub ids_full : (n at : ℕ) (found : List Word) (ts : Tokens) (f : Failure) → n ≤ at → Fails f (id ts) → Fails (where_full ts f) (ids_from (n - at) found ts)
-unfolding ids_from list_from
-ids_full n at found ts failure.Memory above h = tt
-ids_full n at found ts (failure.At s) above h = rw (full (λ k. ids_from k found ts) n at above) (rw h (fails_full (Word × Nesting × Tokens) ts s _))
+ids_full n at found ts above =
+    full (λ k. ids_from k found ts) n at above ∙ ap (λ (r : Read (List Word)). r >>= λ p. Ok (p.0, p.2)) (crowded_is (List Word × Nesting × Tokens) is_id ts)
 
 -- ---- Instances with commas between them.
 
@@ -107,14 +104,9 @@ pub formals_next : (n at : ℕ) (found fs : List Formal) (ts us vs : Tokens) →
 unfolding formals_from
 formals_next n at found fs ts us vs below e a = turn (λ k. formals_from bounded k found ts) n at below ∙ rw (e, a) refl
 
-pub formals_many : (n at : ℕ) (found fs : List Formal) (ts us : Tokens) → n ≤ at → formal bounded ts ≡ Ok (fs, us) → formals_from bounded (n - at) found ts ≡ too_many ts
+pub formals_full : (n at : ℕ) (found : List Formal) (ts : Tokens) → n ≤ at → formals_from bounded (n - at) found ts ≡ Err (crowded_at (comes is_id ts) ts)
 unfolding formals_from
-formals_many n at found fs ts us above e = full (λ k. formals_from bounded k found ts) n at above ∙ rw e refl
-
-pub formals_full : (n at : ℕ) (found : List Formal) (ts : Tokens) (f : Failure) → n ≤ at → Fails f (formal bounded ts) → Fails (where_full ts f) (formals_from bounded (n - at) found ts)
-unfolding formals_from
-formals_full n at found ts failure.Memory above h = tt
-formals_full n at found ts (failure.At s) above h = rw (full (λ k. formals_from bounded k found ts) n at above) (rw h (crowded_fails (List Formal × Tokens) (List Formal × Tokens) ts s))
+formals_full n at found ts above = full (λ k. formals_from bounded k found ts) n at above ∙ crowded_is (List Formal × Tokens) is_id ts
 
 -- ---- Declarations, as long as one comes next.
 
@@ -141,9 +133,9 @@ many_full part n at found ts above = full (λ k. many_from (declares bounded par
 unfoldable pub unit_from : List ℕ → ℕ → List Item → Tokens → Answer tree.Unit
 unit_from text n found ts = items_from bounded text n found ts >>= λ is. Ok (record { items = is })
 
-pub unit_init : (text : List ℕ) (found : List Item) (ts : Tokens) → found ≡ [] → spec.unit bounded text ts ≡ unit_from text (length ts) found ts
+pub unit_init : (text : List ℕ) (found : List Item) (ts : Tokens) → found ≡ [] → spec.unit bounded text ts ≡ unit_from text (length ts - 0) found ts
 unfolding unit_from
-unit_init text found ts e = rw e refl
+unit_init text found ts e = let whole : length ts - 0 ≡ length ts = omega arith in rw (e, whole) refl
 
 pub unit_end : (text : List ℕ) (n : ℕ) (found : List Item) (ts : Tokens) → length ts ≡ 0 → unit_from text n found ts ≡ Ok (record { items = found })
 unfolding unit_from items_from

@@ -1,8 +1,5 @@
 -- What single steps of reading give, where the definitions of reading have them inside others.
-use Rattle.std.specs.Prelude.{ℕ, ◌==◌, if◌then◌else◌, List, length, map, Ok}
-use Rattle.pvs_parser.specs.declared.failure.Failure.{Failure}
-use Rattle.pvs_parser.specs.declared.failure.Failure.TheVariants as failure
-use Rattle.pvs_parser.specs.declared.failure.Reason.TheVariants as reason
+use Rattle.std.specs.Prelude.{List, map, Ok}
 use Rattle.pvs_parser.specs.declared.declarations.Part.{Part}
 use Rattle.pvs_parser.specs.declared.declarations.Part.TheVariants as part
 use Rattle.pvs_syntax.specs.declared.word.Word.{Word}
@@ -11,12 +8,6 @@ use Rattle.pvs_syntax.specs.declared.unit.Decl.{Decl}
 use Rattle.pvs_parser.specs.Language.{Limit, Tokens}
 use Rattle.pvs_parser.specs.Descent.{Answer, ◌>>=◌}
 use Rattle.pvs_parser.specs.UnitDescent.{declaration, assumed}
-
--- Why a list that is full does not go on with these tokens, where an entry of them fails so: one that begins is one too many.
-abbrev pub where_full : Tokens → Failure → Failure
-where_full ts failure.Memory = failure.Memory
-where_full ts (failure.At s) =
-    if s.left == length ts then failure.At s else failure.At (record { left = length ts; reason = reason.TooNested })
 
 -- a declaration of a part of a theory
 abbrev pub declares : Limit → Part → Tokens → Answer (List Decl × Tokens)

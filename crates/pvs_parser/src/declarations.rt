@@ -12,7 +12,7 @@ use crate::formals::{plus, type_of};
 use crate::importings::{ids, importing};
 use crate::nesting::Nesting;
 use crate::start::Start;
-use crate::stubs;
+use crate::descent;
 use crate::tables::is_id;
 use crate::terminal::{Connective, Terminal, TerminalKind};
 use crate::tokens::{after, expect, id, stop};
@@ -42,7 +42,7 @@ fn one(alloc: Global, decl: Decl) -> Result<Items<Decl>, AllocError>
 fn expr(alloc: Global, tokens: &[Terminal]) -> Result<(Expr, &[Terminal]), Failure>
     ensures { Gives (λ p. (p.0, p.1.now)) result (spec.expr bounded tokens.now) }
 {
-    let (expr, _, rest) = stubs::expr(
+    let (expr, _, rest) = descent::expr(
         alloc,
         tokens.len() + 1,
         Start::Chain(Connective::Iff),
@@ -117,7 +117,7 @@ fn constant(alloc: Global, name: Word, params: Items<Binding>, tokens: &[Termina
 fn function(alloc: Global, name: Word, tokens: &[Terminal]) -> Decls<'_>
     ensures { Gives (λ p. (p.0, p.1.now)) result (spec.function bounded name tokens.now) }
 {
-    let (params, rest) = stubs::bindings(alloc, tokens.len() + 1, Nesting::OUTERMOST, tokens)?;
+    let (params, rest) = descent::bindings(alloc, tokens.len() + 1, Nesting::OUTERMOST, tokens)?;
     let rest = expect(TerminalKind::Colon, rest)?;
     constant(alloc, name, params, rest)
 }

@@ -8,11 +8,12 @@ ghost use Rattle.pvs_parser.specs.Units.{type_formal, const_formal};
 ghost use Rattle.pvs_parser.specs.UnitDescent as spec;
 
 use crate::failure::Failure;
-use crate::importings::{ids, where_full};
+use crate::importings::ids;
+use crate::lists::crowded;
 use crate::nesting::Nesting;
-use crate::stubs::type_expr;
+use crate::descent::type_expr;
 use crate::terminal::{Terminal, TerminalKind};
-use crate::tokens::{after, expect, stop, too_many};
+use crate::tokens::{after, comes_id, expect, stop};
 use pvs_base::MAX_LIST;
 use pvs_syntax::{Formal, TypeExpr, Word};
 use sqlite_items::Items;
@@ -107,7 +108,7 @@ fn formal(alloc: Global, tokens: &[Terminal]) -> Result<(Items<Formal>, &[Termin
 }
 
 /// Formals with commas between them, and the tokens after them.
-#[tactic(auto, using(crate::proofs::UnitTurns::formals_init, crate::proofs::UnitTurns::formals_err, crate::proofs::UnitTurns::formals_last, crate::proofs::UnitTurns::formals_next, crate::proofs::UnitTurns::formals_many))]
+#[tactic(auto, using(crate::proofs::UnitTurns::formals_init, crate::proofs::UnitTurns::formals_err, crate::proofs::UnitTurns::formals_last, crate::proofs::UnitTurns::formals_next, crate::proofs::UnitTurns::formals_full))]
 fn formals(alloc: Global, tokens: &[Terminal]) -> Result<(Items<Formal>, &[Terminal]), Failure>
     ensures { Gives (λ p. (p.0, p.1.now)) result (spec.formals_from bounded 200 [] tokens.now) }
 {
@@ -121,10 +122,7 @@ fn formals(alloc: Global, tokens: &[Terminal]) -> Result<(Items<Formal>, &[Termi
         };
         rest = next;
     }
-    match formal(alloc, rest) {
-        Ok(_) => Err(too_many(rest)),
-        Err(failure) => Err(where_full(rest, failure)),
-    }
+    Err(crowded(comes_id(rest), rest))
 }
 
 /// Formals in brackets, where a bracket comes next.

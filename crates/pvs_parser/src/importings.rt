@@ -1,34 +1,23 @@
-//! Lists of names, and instances of theories.
+//! Lists of identifiers, and the importing of instances.
 
 ghost use Rattle.std.specs.Prelude.{◌≡◌, ◌<◌, ◌+◌, [], length, IfOk};
 ghost use Rattle.pvs_parser.specs.Descent.{Gives};
 ghost use Rattle.pvs_parser.specs.Language.{bounded};
-ghost use Rattle.pvs_parser.specs.Steps.{where_full};
 ghost use Rattle.pvs_parser.specs.UnitDescent as spec;
 
 use crate::failure::Failure;
+use crate::lists::crowded;
 use crate::nesting::Nesting;
-use crate::stubs::actuals;
+use crate::descent::actuals;
 use crate::terminal::{Terminal, TerminalKind};
-use crate::tokens::{after, id, stop, too_many};
+use crate::tokens::{after, comes_id, id, stop};
 use pvs_base::MAX_LIST;
 use pvs_syntax::{Decl, InstExpr, Word};
 use sqlite_items::Items;
 use std::alloc::Global;
 
-/// Why a list that has the most entries does not go on with these tokens, where one more entry
-/// fails so.
-pub fn where_full(tokens: &[Terminal], failure: Failure) -> Failure
-    ensures { result ≡ where_full tokens.now failure }
-{
-    match failure {
-        Failure::At(stop) if stop.left != tokens.len() => too_many(tokens),
-        _ => failure,
-    }
-}
-
 /// Identifiers with commas between them, and the tokens after them.
-#[tactic(auto, using(crate::proofs::UnitTurns::ids_init, crate::proofs::UnitTurns::ids_err, crate::proofs::UnitTurns::ids_last, crate::proofs::UnitTurns::ids_next, crate::proofs::UnitTurns::ids_many))]
+#[tactic(auto, using(crate::proofs::UnitTurns::ids_init, crate::proofs::UnitTurns::ids_err, crate::proofs::UnitTurns::ids_last, crate::proofs::UnitTurns::ids_next, crate::proofs::UnitTurns::ids_full))]
 pub fn ids(alloc: Global, tokens: &[Terminal]) -> Result<(Vec<Word>, &[Terminal]), Failure>
     ensures value { Gives (λ p. (p.0.items, p.1.now)) result (spec.ids bounded tokens.now) }
     ensures some { IfOk result (λ p. 0 < length p.0.items) }
@@ -43,10 +32,7 @@ pub fn ids(alloc: Global, tokens: &[Terminal]) -> Result<(Vec<Word>, &[Terminal]
         };
         rest = next;
     }
-    match id(rest) {
-        Ok(_) => Err(too_many(rest)),
-        Err(failure) => Err(where_full(rest, failure)),
-    }
+    Err(crowded(comes_id(rest), rest))
 }
 
 /// A theory, with the actuals that stand behind its name.

@@ -1,22 +1,31 @@
 //! Reads texts of the language: units, and expressions that stand in quotes.
 #![tactic(auto)]
 
+mod branches;
 mod declarations;
+mod descent;
 mod failure;
 mod fault;
 mod formals;
-mod importings;
 mod grammar;
+mod importings;
+mod items;
+mod lists;
+mod names;
 mod nesting;
+mod operands;
 mod parse;
+mod prefixes;
 mod proofs;
 mod start;
-mod stubs;
 mod tables;
 mod terminal;
+mod terms;
 mod text;
 mod theories;
 mod tokens;
+mod trees;
+mod types;
 mod units;
 
 pub use failure::{Failure, ParseFault, Reason, Stop};

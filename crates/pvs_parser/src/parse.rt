@@ -9,7 +9,7 @@ ghost use Rattle.pvs_parser.specs.Text as spec;
 
 use crate::failure::ParseFault;
 use crate::fault::parse_fault;
-use crate::stubs::expression;
+use crate::descent::expression;
 use crate::text::terminals;
 use crate::units::unit;
 use pvs_base::{Code, Fault, MAX_TEXT, Pos};

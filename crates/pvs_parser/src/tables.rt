@@ -81,3 +81,37 @@ pub fn begins_type(kind: TerminalKind) -> bool
 {
     matches!(kind, TerminalKind::OpenBracket | TerminalKind::OpenBrace)
 }
+
+/// Whether an expression may begin with it.
+pub fn starts_expr(kind: TerminalKind) -> bool
+    ensures { result ≡ spec.starts_expr kind }
+{
+    matches!(
+        kind,
+        TerminalKind::Not
+            | TerminalKind::Forall
+            | TerminalKind::Exists
+            | TerminalKind::Lambda
+            | TerminalKind::Let
+            | TerminalKind::True
+            | TerminalKind::False
+            | TerminalKind::Id
+            | TerminalKind::Proof
+            | TerminalKind::Open
+            | TerminalKind::If
+    )
+}
+
+/// Whether a type may begin with it.
+pub fn starts_type(kind: TerminalKind) -> bool
+    ensures { result ≡ spec.starts_type kind }
+{
+    matches!(
+        kind,
+        TerminalKind::Id
+            | TerminalKind::Proof
+            | TerminalKind::Open
+            | TerminalKind::OpenBracket
+            | TerminalKind::OpenBrace
+    )
+}

@@ -1,12 +1,13 @@
 //! The first of some tokens.
 
 ghost use Rattle.std.specs.Prelude.{◌≡◌, ◌+◌, option_map, length};
-ghost use Rattle.pvs_parser.specs.Terminals.{same_kind};
+ghost use Rattle.pvs_parser.specs.Terminals.{is_id, same_kind};
+ghost use Rattle.pvs_parser.specs.Nests.{comes};
 ghost use Rattle.pvs_parser.specs.Descent.{Gives};
 ghost use Rattle.pvs_parser.specs.Descent as spec;
 
 use crate::failure::{Failure, Reason, Stop};
-use crate::tables::{begins_type, comparison, is_id, prefix};
+use crate::tables::{begins_type, comparison, is_id, prefix, starts_expr, starts_type};
 use crate::terminal::{Prefix, Terminal, TerminalKind};
 use pvs_syntax::{InfixWord, Word};
 
@@ -129,14 +130,32 @@ pub fn begins(tokens: &[Terminal]) -> Option<(Prefix, Word, &[Terminal])>
     }
 }
 
-/// Whether a type that is an actual as it stands comes next.
+/// Whether an identifier comes next.
+pub fn comes_id(tokens: &[Terminal]) -> bool
+    ensures { result ≡ comes is_id tokens.now }
+{
+    matches!(tokens, [token, ..] if is_id(token.kind))
+}
+
+/// Whether an expression may come next.
+pub fn comes_expr(tokens: &[Terminal]) -> bool
+    ensures { result ≡ comes spec.starts_expr tokens.now }
+{
+    matches!(tokens, [token, ..] if starts_expr(token.kind))
+}
+
+/// Whether a type may come next.
 pub fn comes_type(tokens: &[Terminal]) -> bool
+    ensures { result ≡ comes spec.starts_type tokens.now }
+{
+    matches!(tokens, [token, ..] if starts_type(token.kind))
+}
+
+/// Whether a type that is an actual parameter as it stands comes next.
+pub fn comes_type_actual(tokens: &[Terminal]) -> bool
     ensures { result ≡ spec.comes_type tokens.now }
 {
-    match tokens {
-        [token, ..] => begins_type(token.kind),
-        [] => false,
-    }
+    matches!(tokens, [token, ..] if begins_type(token.kind))
 }
 
 /// A tree behind which no token is left.
