@@ -20,8 +20,6 @@ use Rattle.pvs_parser.specs.Steps.{declares}
 use Rattle.pvs_parser.specs.UnitDescent as spec
 use Rattle.pvs_parser.specs.UnitDescent.{instances_from, inst, formals_from, formal, many_from, comes_decl, past_semicolon, items_from, one_item}
 
-turn : n - at ≡ suc (n - (at + 1)) = omega arith in e ∙ ap f turn
-
 turn : {X : Type 0} (f : ℕ → X) (n at : ℕ) → at < n → f (n - at) ≡ f (suc (n - (at + 1)))
 turn f n at below = let e : n - at ≡ suc (n - (at + 1)) = omega arith in ap f e
 

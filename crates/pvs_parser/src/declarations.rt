@@ -7,12 +7,12 @@ ghost use Rattle.pvs_parser.specs.Steps.{each, declares};
 ghost use Rattle.pvs_parser.specs.Units.{type_decl, const_decl, formula_of};
 ghost use Rattle.pvs_parser.specs.UnitDescent as spec;
 
+use crate::descent;
 use crate::failure::Failure;
 use crate::formals::{plus, type_of};
 use crate::importings::{ids, importing};
 use crate::nesting::Nesting;
 use crate::start::Start;
-use crate::descent;
 use crate::tables::is_id;
 use crate::terminal::{Connective, Terminal, TerminalKind};
 use crate::tokens::{after, expect, id, stop};

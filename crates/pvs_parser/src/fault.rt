@@ -62,13 +62,7 @@ fn code_of(tokens: &[Terminal], at: usize, kind: TerminalKind, reason: Reason) -
 ///
 /// Where no token is left, it is the lexical fault, or that the span ends: at the place after its
 /// last byte.
-fn fault_of(
-    span: &[u8],
-    pos: Pos,
-    lexical: Option<Fault>,
-    tokens: &[Terminal],
-    stop: Stop,
-) -> Fault
+fn fault_of(span: &[u8], pos: Pos, lexical: Option<Fault>, tokens: &[Terminal], stop: Stop) -> Fault
     requires size { length span.now ≤ 2 ^ 20 }
     requires line { pos.line ≤ 2 ^ 30 }
     requires col { pos.col ≤ 2 ^ 30 }

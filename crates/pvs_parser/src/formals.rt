@@ -7,11 +7,11 @@ ghost use Rattle.pvs_parser.specs.Steps.{each};
 ghost use Rattle.pvs_parser.specs.Units.{type_formal, const_formal};
 ghost use Rattle.pvs_parser.specs.UnitDescent as spec;
 
+use crate::descent::type_expr;
 use crate::failure::Failure;
 use crate::importings::ids;
 use crate::lists::crowded;
 use crate::nesting::Nesting;
-use crate::descent::type_expr;
 use crate::terminal::{Terminal, TerminalKind};
 use crate::tokens::{after, comes_id, expect, stop};
 use pvs_base::MAX_LIST;

@@ -5,10 +5,10 @@ ghost use Rattle.pvs_parser.specs.Descent.{Gives};
 ghost use Rattle.pvs_parser.specs.Language.{bounded};
 ghost use Rattle.pvs_parser.specs.UnitDescent as spec;
 
+use crate::descent::actuals;
 use crate::failure::Failure;
 use crate::lists::crowded;
 use crate::nesting::Nesting;
-use crate::descent::actuals;
 use crate::terminal::{Terminal, TerminalKind};
 use crate::tokens::{after, comes_id, id, stop};
 use pvs_base::MAX_LIST;

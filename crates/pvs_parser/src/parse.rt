@@ -7,9 +7,9 @@ ghost use Rattle.pvs_parser.specs.Returns.{Returns};
 ghost use Rattle.pvs_parser.specs.Text.{IsAnswer, Answers, AnswersSpan, SpansIn};
 ghost use Rattle.pvs_parser.specs.Text as spec;
 
+use crate::descent::expression;
 use crate::failure::ParseFault;
 use crate::fault::parse_fault;
-use crate::descent::expression;
 use crate::text::terminals;
 use crate::units::unit;
 use pvs_base::{Code, Fault, MAX_TEXT, Pos};
@@ -33,13 +33,7 @@ fn read_text(alloc: Global, text: &[u8]) -> Result<Unit, ParseFault>
     }
 }
 
-fn read_span(
-    alloc: Global,
-    text: &[u8],
-    start: u32,
-    end: u32,
-    pos: Pos,
-) -> Result<Expr, ParseFault>
+fn read_span(alloc: Global, text: &[u8], start: u32, end: u32, pos: Pos) -> Result<Expr, ParseFault>
     requires order { start ≤ end }
     requires within { end ≤ length text.now }
     requires size { length text.now ≤ 2 ^ 20 }
