@@ -1,4 +1,9 @@
+pub mod Spans
+pub mod UnitTurns
+pub mod Each
 pub mod Turns
+pub mod DescentTurns
+pub mod Knot
 pub mod Yields
 pub mod Follows
 pub mod DescentSteps
@@ -34,3 +39,4 @@ pub mod HaltsWiden
 pub mod HaltsBegins
 pub mod HaltsDescent
 pub mod HaltsWholes
+pub mod Answers

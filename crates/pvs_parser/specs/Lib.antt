@@ -1,7 +1,10 @@
 pub mod Terminals
 pub mod Language
 pub mod Descent
+pub mod Nests
 pub mod Units
 pub mod UnitDescent
 pub mod Faults
 pub mod Text
+pub mod Returns
+pub mod Steps

@@ -1,0 +1,43 @@
+-- Function values that read the expressions and the types that stand deeper.
+use Rattle.std.specs.Prelude.{ℕ, Bool, true, false, [], ◌∷◌, length, Result}
+use Rattle.std.specs.declared.alloc.Global.{Global}
+use denote.Ref.{Bor}
+use Rattle.pvs_parser.specs.declared.failure.Failure.{Failure}
+use Rattle.pvs_parser.specs.declared.failure.Reason.TheVariants as reason
+use Rattle.pvs_parser.specs.declared.failure.Stop.{Stop}
+use Rattle.pvs_parser.specs.declared.nesting.Nesting.{Nesting}
+use Rattle.pvs_parser.specs.declared.start.Start.{Start}
+use Rattle.pvs_parser.specs.declared.terminal.TerminalKind.{TerminalKind}
+use Rattle.pvs_syntax.specs.declared.expression.Expr.{Expr}
+use Rattle.pvs_syntax.specs.declared.expression.TypeExpr.{TypeExpr}
+use Rattle.pvs_parser.specs.Language.{bounded, Tokens}
+use Rattle.pvs_parser.specs.Descent.{Go, Gives, reader}
+
+-- what is read within the limits of the language, with so many forms inside one another at most
+abbrev pub below : ℕ → Go
+below room = record { limit = bounded; expr = (reader bounded room).expr; type = (reader bounded room).type }
+
+-- a tree as a function returns it, with the nesting behind it and the tokens after it
+abbrev pub Returned : Type 0 → Type 0
+Returned A = Result (A × Nesting × Bor Tokens) Failure
+
+pub record Nests (room : ℕ) (pre_expr : Global → ℕ → Start → Nesting → Bor Tokens → Type 0)
+    (post_expr : Global → ℕ → Start → Nesting → Bor Tokens → Returned Expr → Type 0)
+    (pre_type : Global → ℕ → Nesting → Bor Tokens → Type 0)
+    (post_type : Global → ℕ → Nesting → Bor Tokens → Returned TypeExpr → Type 0) : Type 0 where
+  pub expr_callable : (alloc : Global) (s : Start) (l : Nesting) (ts : Bor Tokens) → pre_expr alloc room s l ts
+  pub expr_gives : (alloc : Global) (s : Start) (l : Nesting) (ts : Bor Tokens) (r : Returned Expr) → post_expr alloc room s l ts r
+      → Gives (λ p. (p.0, p.1, p.2.now)) r ((reader bounded room).expr s l ts.now)
+  pub type_callable : (alloc : Global) (l : Nesting) (ts : Bor Tokens) → pre_type alloc room l ts
+  pub type_gives : (alloc : Global) (l : Nesting) (ts : Bor Tokens) (r : Returned TypeExpr) → post_type alloc room l ts r
+      → Gives (λ p. (p.0, p.1, p.2.now)) r ((reader bounded room).type l ts.now)
+
+-- whether such a terminal comes next
+abbrev pub comes : (TerminalKind → Bool) → Tokens → Bool
+comes starts [] = false
+comes starts (t ∷ ts) = starts t.kind
+
+-- where a list stops behind the most items that it may have, as one more may begin or not
+abbrev pub crowded_at : Bool → Tokens → Stop
+crowded_at true ts = record { left = length ts; reason = reason.TooNested }
+crowded_at false ts = record { left = length ts; reason = reason.Unexpected }

@@ -1,0 +1,170 @@
+//! The rules that hold expressions or types take the readers of those as parameters, so that each
+//! is proved by itself.
+
+ghost use Rattle.std.specs.Prelude.{◌≡◌};
+ghost use Rattle.pvs_parser.specs.Descent.{Gives, reader};
+ghost use Rattle.pvs_parser.specs.Descent as spec;
+ghost use Rattle.pvs_parser.specs.Language.{bounded, Parameter, Variable};
+ghost use Rattle.pvs_parser.specs.Nests.{Nests, below};
+
+use crate::failure::Failure;
+use crate::nesting::Nesting;
+use crate::start::Start;
+use crate::terminal::{Connective, Terminal, TerminalKind};
+use crate::tokens::{ended, stop};
+use pvs_syntax::{Actual, Binding, Expr, TypeExpr};
+use sqlite_items::Items;
+use std::alloc::Global;
+
+/// A tree, with the nesting behind it and the tokens after it.
+pub type Read<'a, A> = Result<(A, Nesting, &'a [Terminal]), Failure>;
+
+/// How the expressions and the types inside a form are read.
+#[derive(Clone, Copy)]
+pub struct Descent<E, T> {
+    pub alloc: Global,
+    /// How many forms may stand inside one another.
+    pub room: usize,
+    pub expr: E,
+    pub ty: T,
+}
+
+impl<E, T> Descent<E, T>
+where
+    E: Fn(Global, usize, Start, Nesting, &[Terminal]) -> Read<'_, Expr>,
+    T: Fn(Global, usize, Nesting, &[Terminal]) -> Read<'_, TypeExpr>,
+{
+    pub fn start<'a>(
+        &self,
+        start: Start,
+        nesting: Nesting,
+        tokens: &'a [Terminal],
+    ) -> Read<'a, Expr>
+        requires { Nests self.now.room (E.pre self.now.expr) (E.post self.now.expr) (T.pre self.now.ty) (T.post self.now.ty) }
+        ensures { Gives (λ p. (p.0, p.1, p.2.now)) result ((below self.now.room).expr start nesting tokens.now) }
+    {
+        (self.expr)(self.alloc, self.room, start, nesting, tokens)
+    }
+
+    /// A whole expression.
+    pub fn expr<'a>(&self, nesting: Nesting, tokens: &'a [Terminal]) -> Read<'a, Expr>
+        requires { Nests self.now.room (E.pre self.now.expr) (E.post self.now.expr) (T.pre self.now.ty) (T.post self.now.ty) }
+        ensures { Gives (λ p. (p.0, p.1, p.2.now)) result (spec.deeper (below self.now.room) nesting tokens.now) }
+    {
+        self.start(Start::Chain(Connective::Iff), nesting, tokens)
+    }
+
+    pub fn type_expr<'a>(&self, nesting: Nesting, tokens: &'a [Terminal]) -> Read<'a, TypeExpr>
+        requires { Nests self.now.room (E.pre self.now.expr) (E.post self.now.expr) (T.pre self.now.ty) (T.post self.now.ty) }
+        ensures { Gives (λ p. (p.0, p.1, p.2.now)) result ((below self.now.room).type nesting tokens.now) }
+    {
+        (self.ty)(self.alloc, self.room, nesting, tokens)
+    }
+
+    /// What begins with `start`.
+    fn expr_rule<'a>(
+        &self,
+        start: Start,
+        nesting: Nesting,
+        tokens: &'a [Terminal],
+    ) -> Read<'a, Expr>
+        requires { Nests self.now.room (E.pre self.now.expr) (E.post self.now.expr) (T.pre self.now.ty) (T.post self.now.ty) }
+        ensures { Gives (λ p. (p.0, p.1, p.2.now)) result (spec.expr_with (below self.now.room) start nesting tokens.now) }
+    {
+        match start {
+            Start::Chain(connective) => self.chain(connective, nesting, tokens),
+            Start::Operand => self.operand(nesting, tokens),
+            Start::Otherwise => self.otherwise(nesting, tokens),
+        }
+    }
+}
+
+/// What begins with `start`, with at most `room` forms inside one another.
+#[cycle(descent)]
+pub fn expr(
+    alloc: Global,
+    room: usize,
+    start: Start,
+    nesting: Nesting,
+    tokens: &[Terminal],
+) -> Read<'_, Expr>
+    ensures { Gives (λ p. (p.0, p.1, p.2.now)) result ((reader bounded room).expr start nesting tokens.now) }
+{
+    if room == 0 {
+        return Err(stop(tokens));
+    }
+    Descent {
+        alloc,
+        room: room - 1,
+        expr,
+        ty: type_expr,
+    }
+    .expr_rule(start, nesting, tokens)
+}
+
+/// A type, with at most `room` forms inside one another.
+#[cycle(descent)]
+pub fn type_expr(
+    alloc: Global,
+    room: usize,
+    nesting: Nesting,
+    tokens: &[Terminal],
+) -> Read<'_, TypeExpr>
+    ensures { Gives (λ p. (p.0, p.1, p.2.now)) result ((reader bounded room).type nesting tokens.now) }
+{
+    if room == 0 {
+        return Err(stop(tokens));
+    }
+    Descent {
+        alloc,
+        room: room - 1,
+        expr,
+        ty: type_expr,
+    }
+    .type_rule(nesting, tokens)
+}
+
+/// Variables up to the parenthesis that ends them, and the tokens after it.
+pub fn bindings(
+    alloc: Global,
+    room: usize,
+    nesting: Nesting,
+    tokens: &[Terminal],
+) -> Result<(Items<Binding>, &[Terminal]), Failure>
+    ensures { Gives (λ p. (p.0, p.1.now)) result (spec.framed_with (reader bounded room) Variable TerminalKind.Close nesting tokens.now) }
+{
+    Descent {
+        alloc,
+        room,
+        expr,
+        ty: type_expr,
+    }
+    .bindings(nesting, tokens)
+}
+
+/// Actual parameters up to the bracket that ends them, and the tokens after it.
+pub fn actuals(
+    alloc: Global,
+    room: usize,
+    nesting: Nesting,
+    tokens: &[Terminal],
+) -> Result<(Items<Actual>, &[Terminal]), Failure>
+    ensures { Gives (λ p. (p.0, p.1.now)) result (spec.framed_with (reader bounded room) Parameter TerminalKind.CloseBracket nesting tokens.now) }
+{
+    Descent {
+        alloc,
+        room,
+        expr,
+        ty: type_expr,
+    }
+    .actuals(nesting, tokens)
+}
+
+/// All the tokens as one expression.
+pub fn expression(alloc: Global, tokens: &[Terminal]) -> Result<Expr, Failure>
+    ensures { Gives (λ x. x) result (spec.expression bounded tokens.now) }
+{
+    let start = Start::Chain(Connective::Iff);
+    let (tree, _, rest) = expr(alloc, tokens.len() + 1, start, Nesting::OUTERMOST, tokens)?;
+    ended(tree, rest)
+}

@@ -1,0 +1,216 @@
+//! Lists with commas between their items: at most 200 of them.
+
+ghost use Rattle.std.specs.Prelude.{◌≡◌};
+ghost use Rattle.pvs_parser.specs.Descent.{Gives};
+ghost use Rattle.pvs_parser.specs.Descent as spec;
+ghost use Rattle.pvs_parser.specs.Language.{Expression, Parameter, Component, Variable, BareVariable, Definition};
+ghost use Rattle.pvs_parser.specs.Nests.{Nests, below, crowded_at};
+
+use crate::descent::{Descent, Read};
+use crate::failure::Failure;
+use crate::nesting::Nesting;
+use crate::start::Start;
+use crate::terminal::{Terminal, TerminalKind};
+use crate::tokens::{
+    after, comes_expr, comes_id, comes_type, comes_type_actual, expect, stop, too_many,
+};
+use crate::trees::bare_variable;
+use pvs_base::MAX_LIST;
+use pvs_syntax::{Actual, Binding, Expr, LetPart, TypeExpr};
+use sqlite_items::Items;
+use std::alloc::Global;
+
+/// Why reading stops behind the most items that a list may have. Where one more may begin, as
+/// `is_start` says, that is one too many.
+pub fn crowded(is_start: bool, tokens: &[Terminal]) -> Failure
+    ensures { result ≡ Failure.At (crowded_at is_start tokens.now) }
+{
+    if is_start {
+        too_many(tokens)
+    } else {
+        stop(tokens)
+    }
+}
+
+impl<E, T> Descent<E, T>
+where
+    E: Fn(Global, usize, Start, Nesting, &[Terminal]) -> Read<'_, Expr>,
+    T: Fn(Global, usize, Nesting, &[Terminal]) -> Read<'_, TypeExpr>,
+{
+    /// Expressions.
+    fn exprs<'a>(&self, nesting: Nesting, tokens: &'a [Terminal]) -> Read<'a, Items<Expr>>
+        requires { Nests self.now.room (E.pre self.now.expr) (E.post self.now.expr) (T.pre self.now.ty) (T.post self.now.ty) }
+        ensures { Gives (λ p. (p.0, p.1, p.2.now)) result (spec.list_with (below self.now.room) Expression nesting tokens.now) }
+    {
+        let mut found = Items::new(self.alloc);
+        let mut nesting = nesting;
+        let mut rest = tokens;
+        for _ in 0..MAX_LIST {
+            let (item, behind, next) = self.expr(nesting, rest)?;
+            found.push(item)?;
+            let Some(next) = after(TerminalKind::Comma, next) else {
+                return Ok((found, behind, next));
+            };
+            nesting = behind.cleared();
+            rest = next;
+        }
+        Err(crowded(comes_expr(rest), rest))
+    }
+
+    /// Actual parameters.
+    fn actual_list<'a>(&self, nesting: Nesting, tokens: &'a [Terminal]) -> Read<'a, Items<Actual>>
+        requires { Nests self.now.room (E.pre self.now.expr) (E.post self.now.expr) (T.pre self.now.ty) (T.post self.now.ty) }
+        ensures { Gives (λ p. (p.0, p.1, p.2.now)) result (spec.list_with (below self.now.room) Parameter nesting tokens.now) }
+    {
+        let mut found = Items::new(self.alloc);
+        let mut nesting = nesting;
+        let mut rest = tokens;
+        for _ in 0..MAX_LIST {
+            let (item, behind, next) = self.parameter(nesting, rest)?;
+            found.push(item)?;
+            let Some(next) = after(TerminalKind::Comma, next) else {
+                return Ok((found, behind, next));
+            };
+            nesting = behind.cleared();
+            rest = next;
+        }
+        Err(crowded(comes_expr(rest) || comes_type_actual(rest), rest))
+    }
+
+    /// Components of a domain or of a tuple type.
+    pub fn components<'a>(
+        &self,
+        nesting: Nesting,
+        tokens: &'a [Terminal],
+    ) -> Read<'a, Items<Binding>>
+        requires { Nests self.now.room (E.pre self.now.expr) (E.post self.now.expr) (T.pre self.now.ty) (T.post self.now.ty) }
+        ensures { Gives (λ p. (p.0, p.1, p.2.now)) result (spec.list_with (below self.now.room) Component nesting tokens.now) }
+    {
+        let mut found = Items::new(self.alloc);
+        let mut nesting = nesting;
+        let mut rest = tokens;
+        for _ in 0..MAX_LIST {
+            let (item, behind, next) = self.component(nesting, rest)?;
+            found.push(item)?;
+            let Some(next) = after(TerminalKind::Comma, next) else {
+                return Ok((found, behind, next));
+            };
+            nesting = behind.cleared();
+            rest = next;
+        }
+        Err(crowded(comes_type(rest), rest))
+    }
+
+    /// Variables with or without types.
+    fn variables<'a>(&self, nesting: Nesting, tokens: &'a [Terminal]) -> Read<'a, Items<Binding>>
+        requires { Nests self.now.room (E.pre self.now.expr) (E.post self.now.expr) (T.pre self.now.ty) (T.post self.now.ty) }
+        ensures { Gives (λ p. (p.0, p.1, p.2.now)) result (spec.list_with (below self.now.room) Variable nesting tokens.now) }
+    {
+        let mut found = Items::new(self.alloc);
+        let mut nesting = nesting;
+        let mut rest = tokens;
+        for _ in 0..MAX_LIST {
+            let (item, behind, next) = self.variable(nesting, rest)?;
+            found.push(item)?;
+            let Some(next) = after(TerminalKind::Comma, next) else {
+                return Ok((found, behind, next));
+            };
+            nesting = behind.cleared();
+            rest = next;
+        }
+        Err(crowded(comes_id(rest), rest))
+    }
+
+    /// Variables without types.
+    pub fn bare_variables<'a>(
+        &self,
+        nesting: Nesting,
+        tokens: &'a [Terminal],
+    ) -> Read<'a, Items<Binding>>
+        requires { Nests self.now.room (E.pre self.now.expr) (E.post self.now.expr) (T.pre self.now.ty) (T.post self.now.ty) }
+        ensures { Gives (λ p. (p.0, p.1, p.2.now)) result (spec.list_with (below self.now.room) BareVariable nesting tokens.now) }
+    {
+        let mut found = Items::new(self.alloc);
+        let mut nesting = nesting;
+        let mut rest = tokens;
+        for _ in 0..MAX_LIST {
+            let (item, behind, next) = bare_variable(nesting, rest)?;
+            found.push(item)?;
+            let Some(next) = after(TerminalKind::Comma, next) else {
+                return Ok((found, behind, next));
+            };
+            nesting = behind.cleared();
+            rest = next;
+        }
+        Err(crowded(comes_id(rest), rest))
+    }
+
+    /// Parts of a LET.
+    pub fn definitions<'a>(
+        &self,
+        nesting: Nesting,
+        tokens: &'a [Terminal],
+    ) -> Read<'a, Items<LetPart>>
+        requires { Nests self.now.room (E.pre self.now.expr) (E.post self.now.expr) (T.pre self.now.ty) (T.post self.now.ty) }
+        ensures { Gives (λ p. (p.0, p.1, p.2.now)) result (spec.list_with (below self.now.room) Definition nesting tokens.now) }
+    {
+        let mut found = Items::new(self.alloc);
+        let mut nesting = nesting;
+        let mut rest = tokens;
+        for _ in 0..MAX_LIST {
+            let (item, behind, next) = self.definition(nesting, rest)?;
+            found.push(item)?;
+            let Some(next) = after(TerminalKind::Comma, next) else {
+                return Ok((found, behind, next));
+            };
+            nesting = behind.cleared();
+            rest = next;
+        }
+        Err(crowded(comes_id(rest), rest))
+    }
+
+    /// Expressions up to the parenthesis that ends them.
+    pub fn arguments<'a>(
+        &self,
+        nesting: Nesting,
+        tokens: &'a [Terminal],
+    ) -> Result<(Items<Expr>, &'a [Terminal]), Failure>
+        requires { Nests self.now.room (E.pre self.now.expr) (E.post self.now.expr) (T.pre self.now.ty) (T.post self.now.ty) }
+        ensures { Gives (λ p. (p.0, p.1.now)) result (spec.framed_with (below self.now.room) Expression TerminalKind.Close nesting tokens.now) }
+    {
+        let nesting = nesting.enter(tokens)?;
+        let (found, _, rest) = self.exprs(nesting, tokens)?;
+        let rest = expect(TerminalKind::Close, rest)?;
+        Ok((found, rest))
+    }
+
+    /// Actual parameters up to the bracket that ends them.
+    pub fn actuals<'a>(
+        &self,
+        nesting: Nesting,
+        tokens: &'a [Terminal],
+    ) -> Result<(Items<Actual>, &'a [Terminal]), Failure>
+        requires { Nests self.now.room (E.pre self.now.expr) (E.post self.now.expr) (T.pre self.now.ty) (T.post self.now.ty) }
+        ensures { Gives (λ p. (p.0, p.1.now)) result (spec.framed_with (below self.now.room) Parameter TerminalKind.CloseBracket nesting tokens.now) }
+    {
+        let nesting = nesting.enter(tokens)?;
+        let (found, _, rest) = self.actual_list(nesting, tokens)?;
+        let rest = expect(TerminalKind::CloseBracket, rest)?;
+        Ok((found, rest))
+    }
+
+    /// Variables up to the parenthesis that ends them.
+    pub fn bindings<'a>(
+        &self,
+        nesting: Nesting,
+        tokens: &'a [Terminal],
+    ) -> Result<(Items<Binding>, &'a [Terminal]), Failure>
+        requires { Nests self.now.room (E.pre self.now.expr) (E.post self.now.expr) (T.pre self.now.ty) (T.post self.now.ty) }
+        ensures { Gives (λ p. (p.0, p.1.now)) result (spec.framed_with (below self.now.room) Variable TerminalKind.Close nesting tokens.now) }
+    {
+        let nesting = nesting.enter(tokens)?;
+        let (found, _, rest) = self.variables(nesting, tokens)?;
+        let rest = expect(TerminalKind::Close, rest)?;
+        Ok((found, rest))
+    }
+}
