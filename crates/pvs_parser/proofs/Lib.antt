@@ -31,3 +31,5 @@ pub mod HaltsWiden
 pub mod HaltsBegins
 pub mod HaltsDescent
 pub mod HaltsWholes
+pub mod HaltsUnitsWiden
+pub mod HaltsUnitsEnds
