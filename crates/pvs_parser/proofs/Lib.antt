@@ -33,3 +33,4 @@ pub mod HaltsDescent
 pub mod HaltsWholes
 pub mod HaltsUnitsWiden
 pub mod HaltsUnitsEnds
+pub mod HaltsUnitsParts
