@@ -57,7 +57,7 @@ beyond {vs = vs} {f = f} g s = record { same = g.same ∙ ap f s.same; through =
 
 -- ---- whole expressions and types
 
-turns : (ts : Tokens) → length ts < length ts + 1
+pub turns : (ts : Tokens) → length ts < length ts + 1
 turns ts = omega arith
 
 pub expr_stops : (limit : Limit) (ts : Tokens) → Stops (expr limit ts) (Halts limit (λ w p. Begun w (λ e. Form.Chain connective.Iff e) outermost p) ts)

@@ -34,3 +34,4 @@ pub mod HaltsWholes
 pub mod HaltsUnitsWiden
 pub mod HaltsUnitsEnds
 pub mod HaltsUnitsParts
+pub mod HaltsUnitsDecls
