@@ -35,3 +35,5 @@ pub mod HaltsUnitsWiden
 pub mod HaltsUnitsEnds
 pub mod HaltsUnitsParts
 pub mod HaltsUnitsDecls
+pub mod HaltsUnitsSteps
+pub mod HaltsUnitsTheories
