@@ -37,3 +37,4 @@ pub mod HaltsUnitsParts
 pub mod HaltsUnitsDecls
 pub mod HaltsUnitsSteps
 pub mod HaltsUnitsTheories
+pub mod HaltsUnitsProofs

@@ -22,16 +22,16 @@ use Rattle.pvs_parser.proofs.Scripts.{proof_sound, proof_complete}
 
 -- ---- what is read is in the grammar
 
-abbrev IsItem : Limit → List ℕ → Tokens → Item → Type 0
+abbrev pub IsItem : Limit → List ℕ → Tokens → Item → Type 0
 IsItem limit text ts (item.Theory t) = DerivesTheory limit text ts t
 IsItem limit text ts (item.Proof p) = DerivesProof limit ts p
 
-item_sound : (limit : Limit) (text : List ℕ) (ts : Tokens) → Yields (one_item limit text ts) (Fore (IsItem limit text) ts)
+pub item_sound : (limit : Limit) (text : List ℕ) (ts : Tokens) → Yields (one_item limit text ts) (Fore (IsItem limit text) ts)
 item_sound limit text ts = cases
     (λ us a. let c = (after_yields kind.Open ts).holds us a in bind (proof_sound limit c.0 ts us c.1 c.2) (λ p f. here (f.0, f.1, f.2)))
     (λ a. bind (theory_sound limit text ts) (λ p f. here (f.0, f.1, f.2)))
 
-item_before : (limit : Limit) (text : List ℕ) (ts us : Tokens) (i : Item) (is : List Item) → IsItem limit text ts i → DerivesItems limit text us is → DerivesItems limit text (ts ++ us) (i ∷ is)
+pub item_before : (limit : Limit) (text : List ℕ) (ts us : Tokens) (i : Item) (is : List Item) → IsItem limit text ts i → DerivesItems limit text us is → DerivesItems limit text (ts ++ us) (i ∷ is)
 item_before limit text ts us (item.Theory t) is d e = DerivesItems.theory ts us t is d e
 item_before limit text ts us (item.Proof p) is d e = DerivesItems.proof ts us p is d e
 
@@ -82,7 +82,7 @@ item_complete limit some text ts us (item.Theory t) d = theory_item limit some t
 item_complete limit some text ts us (item.Proof p) d = proof_item limit text ts us p d
 
 -- an item has a first token
-item_some : (limit : Limit) (text : List ℕ) (ts : Tokens) (i : Item) → IsItem limit text ts i → (t : Terminal) × (vs : Tokens) × (ts ≡ t ∷ vs)
+pub item_some : (limit : Limit) (text : List ℕ) (ts : Tokens) (i : Item) → IsItem limit text ts i → (t : Terminal) × (vs : Tokens) × (ts ≡ t ∷ vs)
 item_some limit text ts (item.Theory t) d = let b = theory_begins limit text ts t d in (b.0, b.1, b.2)
 item_some limit text ts (item.Proof p) d = let b = proof_complete limit ts p d [] in (b.0, b.1, b.2)
 
