@@ -38,3 +38,4 @@ pub mod HaltsUnitsDecls
 pub mod HaltsUnitsSteps
 pub mod HaltsUnitsTheories
 pub mod HaltsUnitsProofs
+pub mod HaltsUnits
