@@ -1,5 +1,5 @@
 -- Where the reading of a unit stops, the tokens before the stop can be completed to a unit.
-use Rattle.std.proofs.Common.{◌≡◌, ◌∙◌, ◌⊎◌, inl, inr, ℕ, zero, suc, ◌≤◌, Bool, true, false, List, [], ◌∷◌, ◌++◌, length, None, Ok, Err, refl, sym, ap, subst, length-append, arith}
+use Rattle.std.proofs.Common.{◌≡◌, ◌∙◌, ◌⊎◌, inl, inr, ℕ, zero, suc, ◌≤◌, true, false, List, [], ◌∷◌, ◌++◌, length, None, Err, ap, subst, length-append, arith}
 use Rattle.pvs_parser.specs.declared.failure.Reason.{Reason}
 use Rattle.pvs_parser.specs.declared.failure.Reason.TheVariants as reason
 use Rattle.pvs_parser.specs.declared.failure.Stop.{Stop}
@@ -8,19 +8,19 @@ use Rattle.pvs_parser.specs.declared.terminal.TerminalKind.TheVariants as kind
 use Rattle.pvs_syntax.specs.declared.unit.Item.{Item}
 use Rattle.pvs_syntax.specs.declared.unit.Item.TheVariants as item
 use Rattle.pvs_syntax.specs.declared.unit.Unit as tree
-use Rattle.pvs_parser.specs.Terminals.{Is, IsId}
+use Rattle.pvs_parser.specs.Terminals.{IsId}
 use Rattle.pvs_parser.specs.Language.{Limit, Tokens, IsBelow}
 use Rattle.pvs_parser.specs.Units.{DerivesItems, DerivesUnit}
 use Rattle.pvs_parser.specs.UnitDescent.{one_item, items_from, unit}
 use Rattle.pvs_parser.proofs.Gets.{both}
-use Rattle.pvs_parser.proofs.DescentSteps.{after_yields, Splits, glue, nothing}
+use Rattle.pvs_parser.proofs.DescentSteps.{after_yields, Splits, glue}
 use Rattle.pvs_parser.proofs.Deeper.{Fore}
 use Rattle.pvs_parser.proofs.WholeUnits.{IsItem, item_sound, item_before, item_some}
 use Rattle.pvs_parser.proofs.Halts.{Stops, goes, bind, then_, cases, Wider, Full, NoComma, first, past}
 use Rattle.pvs_parser.proofs.HaltsBegins.{extend}
 use Rattle.pvs_parser.proofs.HaltsUnitsWiden.{widen_theory, widen_proof}
 use Rattle.pvs_parser.proofs.HaltsUnitsEnds.{is_end, last_is_end, last_of}
-use Rattle.pvs_parser.proofs.HaltsUnitsParts.{Starts, started, whole_of}
+use Rattle.pvs_parser.proofs.HaltsUnitsParts.{Starts, started}
 use Rattle.pvs_parser.proofs.HaltsUnitsSteps.{BehindEnd, TextWhy, TextHalts, text_into}
 use Rattle.pvs_parser.proofs.HaltsUnitsTheories.{TheoryBegun, theory_stops}
 use Rattle.pvs_parser.proofs.HaltsUnitsProofs.{ProofBegun, proof_stops}

@@ -1,5 +1,5 @@
 -- Declarations: where their reading stops, the tokens before the stop can be completed.
-use Rattle.std.proofs.Common.{◌≡◌, ◌∙◌, ℕ, ◌+◌, ◌<◌, Bool, true, false, List, [], ◌∷◌, ◌++◌, length, map, Option, Some, None, Ok, refl, sym, ap, subst, arith}
+use Rattle.std.proofs.Common.{◌≡◌, ◌+◌, false, List, [], ◌∷◌, ◌++◌, length, Option, Some, None, refl, sym, ap, subst}
 use Rattle.pvs_parser.specs.declared.nesting.Nesting.{Nesting}
 use Rattle.pvs_parser.specs.declared.terminal.Connective.TheVariants as connective
 use Rattle.pvs_parser.specs.declared.terminal.Terminal.{Terminal}
@@ -8,7 +8,6 @@ use Rattle.pvs_parser.specs.declared.terminal.TerminalKind.TheVariants as kind
 use Rattle.pvs_syntax.specs.declared.word.Word.{Word}
 use Rattle.pvs_syntax.specs.declared.expression.Binding.{Binding}
 use Rattle.pvs_syntax.specs.declared.expression.TypeExpr.{TypeExpr}
-use Rattle.pvs_syntax.specs.declared.unit.Decl.{Decl}
 use Rattle.pvs_syntax.specs.declared.unit.FormulaWord.{FormulaWord}
 use Rattle.pvs_syntax.specs.declared.unit.FormulaWord.TheVariants as formula_word
 use Rattle.pvs_parser.specs.Terminals.{Is, IsId}
@@ -18,7 +17,7 @@ use Rattle.pvs_parser.specs.Units.{DerivesIds, DerivesTypeWord, DerivesVariables
 use Rattle.pvs_parser.specs.Descent.{◌>>=◌, expect}
 use Rattle.pvs_parser.specs.UnitDescent.{type, ids, variables, body, constant, function, constants, types, formulas, stated, declared_of, declared, named, begun, declaration, assumed_of, assumed_after, assumed}
 use Rattle.pvs_parser.proofs.Gets.{both}
-use Rattle.pvs_parser.proofs.DescentSteps.{after_yields, Splits, glue, put, alone, nothing}
+use Rattle.pvs_parser.proofs.DescentSteps.{after_yields, glue, put, alone, nothing}
 use Rattle.pvs_parser.proofs.DescentSound.{moved}
 use Rattle.pvs_parser.proofs.Deeper.{type_sound, framed_sound}
 use Rattle.pvs_parser.proofs.Ids.{ids_sound, ids_one}

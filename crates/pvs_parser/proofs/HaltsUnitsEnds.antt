@@ -1,5 +1,5 @@
 -- No END stands in an expression, a type or a declaration; and whether tokens end in END.
-use Rattle.std.proofs.Common.{◌≡◌, ◌∙◌, Bool, true, false, ℕ, List, [], ◌∷◌, ◌++◌, Option, Some, None, refl, ap}
+use Rattle.std.proofs.Common.{◌≡◌, ◌∙◌, Bool, true, false, ℕ, List, [], ◌∷◌, ◌++◌, Option, Some, refl, ap}
 use Rattle.pvs_parser.specs.declared.nesting.Nesting.{Nesting}
 use Rattle.pvs_parser.specs.declared.terminal.Connective.{Connective}
 use Rattle.pvs_parser.specs.declared.terminal.Connective.TheVariants as connective
@@ -15,7 +15,7 @@ use Rattle.pvs_syntax.specs.declared.expression.InstExpr.{InstExpr}
 use Rattle.pvs_syntax.specs.declared.unit.Decl.{Decl}
 use Rattle.pvs_syntax.specs.declared.unit.Formal.{Formal}
 use Rattle.pvs_syntax.specs.declared.unit.FormulaWord.{FormulaWord}
-use Rattle.pvs_parser.specs.Terminals.{Is, IsId, is_id}
+use Rattle.pvs_parser.specs.Terminals.{IsId, is_id}
 use Rattle.pvs_parser.specs.Language.{Limit, Tokens, Derives, Plain, Form, Item, Nonterminal, form, item, list, name, inst, type_, Tree, held, cleared, inside, marked, before_call, tighter, sign, comparison, binder_word, whole, outermost}
 use Rattle.pvs_parser.specs.Units.{DerivesIds, DerivesTypeWord, DerivesFormal, DerivesFormals, DerivesFormalPart, DerivesInstances, DerivesImporting, DerivesVariables, DerivesParameters, DerivesBody, DerivesDecl, DerivesAssumed, DerivesSemicolon, DerivesMany, DerivesAssuming, formula_of}
 

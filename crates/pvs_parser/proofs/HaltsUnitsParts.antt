@@ -1,5 +1,5 @@
 -- Names, formal parameters and instances: where their reading stops, the tokens before the stop can be completed.
-use Rattle.std.proofs.Common.{◌≡◌, ◌∙◌, ◌⊎◌, inl, inr, ℕ, zero, suc, ◌+◌, ◌≤◌, ◌<◌, Bool, true, false, if◌then◌else◌, List, [], ◌∷◌, ◌++◌, length, map, Some, None, Ok, refl, sym, ap, subst, append_assoc, append-nil, arith}
+use Rattle.std.proofs.Common.{◌≡◌, ◌∙◌, inr, ℕ, zero, suc, ◌+◌, ◌≤◌, ◌<◌, Bool, true, false, if◌then◌else◌, List, [], ◌∷◌, ◌++◌, length, Some, None, refl, sym, ap, subst, append_assoc, append-nil, arith}
 use Rattle.pvs_parser.specs.declared.failure.Reason.{Reason}
 use Rattle.pvs_parser.specs.declared.failure.Reason.TheVariants as reason
 use Rattle.pvs_parser.specs.declared.nesting.Nesting.{Nesting}
@@ -9,24 +9,22 @@ use Rattle.pvs_parser.specs.declared.terminal.TerminalKind.{TerminalKind}
 use Rattle.pvs_parser.specs.declared.terminal.TerminalKind.TheVariants as kind
 use Rattle.pvs_syntax.specs.declared.word.Word.{Word}
 use Rattle.pvs_syntax.specs.declared.expression.InstExpr.{InstExpr}
-use Rattle.pvs_syntax.specs.declared.unit.Decl.{Decl}
-use Rattle.pvs_syntax.specs.declared.unit.Decl.TheVariants as decl
 use Rattle.pvs_syntax.specs.declared.unit.Formal.{Formal}
 use Rattle.pvs_parser.specs.Terminals.{Is, IsId, is_id}
 use Rattle.pvs_parser.specs.Language as l
 use Rattle.pvs_parser.specs.Language.{Limit, Tokens, IsBelow, HasRoom, Derives, Form, Item, type_, outermost, inside, cleared, instance}
 use Rattle.pvs_parser.specs.Units.{DerivesIds, DerivesTypeWord, DerivesFormal, DerivesFormals, DerivesFormalPart, DerivesInstances, DerivesImporting}
-use Rattle.pvs_parser.specs.Descent.{◌>>=◌, stop, too_many, crowded, list_from, entries}
+use Rattle.pvs_parser.specs.Descent.{stop, too_many, crowded, list_from, entries}
 use Rattle.pvs_parser.specs.UnitDescent.{expr, type, name, ids, formal_of, formal_after, formal, formals_from, formals, formal_part, inst, instances_from, importing}
 use Rattle.pvs_parser.proofs.Gets.{both}
 use Rattle.pvs_parser.proofs.DescentSteps.{Comes, after_yields, AtMost, entries_at_most, Splits, glue, put, alone, nothing}
 use Rattle.pvs_parser.proofs.DescentSound.{moved}
-use Rattle.pvs_parser.proofs.Ids.{NameFront, name_sound, ids_sound}
+use Rattle.pvs_parser.proofs.Ids.{name_sound, ids_sound}
 use Rattle.pvs_parser.proofs.FormalLists.{formal_sound, from_sound}
 use Rattle.pvs_parser.proofs.Instances.{inst_sound}
-use Rattle.pvs_parser.proofs.Halts.{Stops, goes, stopped, bind, then_, cases, at, deep, expect_then, id_then, room_then, Wider, any, no_limit, NoComma, no_comma, Why, Halts, unexpected, nested, Place, first, behind, past, upto, into}
+use Rattle.pvs_parser.proofs.Halts.{Stops, goes, stopped, bind, then_, cases, expect_then, id_then, room_then, Wider, any, no_limit, NoComma, no_comma, Why, Halts, unexpected, nested, Place, first, behind, past, upto, into}
 use Rattle.pvs_parser.proofs.HaltsWiden.{wider}
-use Rattle.pvs_parser.proofs.HaltsBegins.{Completes, Begun, made, completed, extend, tok, id_tokens, id_tree, id_type, below_le, some_list}
+use Rattle.pvs_parser.proofs.HaltsBegins.{Completes, Begun, made, extend, tok, below_le, some_list}
 use Rattle.pvs_parser.proofs.HaltsDescent.{at_most_below, at_most_next, at_most_zero}
 use Rattle.pvs_parser.proofs.HaltsWholes.{read_expr_stops, read_type_stops, read_list_stops}
 use Rattle.pvs_parser.proofs.HaltsUnitsWiden.{widen_ids, widen_formal, widen_formals}

@@ -1,5 +1,5 @@
 -- Proofs: where their reading stops, the tokens before the stop can be completed.
-use Rattle.std.proofs.Common.{◌≡◌, ◌∙◌, ℕ, zero, suc, Bool, true, false, if◌then◌else◌, [], ◌∷◌, ◌++◌, None, Ok, refl, sym, ap, append_assoc}
+use Rattle.std.proofs.Common.{◌≡◌, ◌∙◌, ℕ, zero, suc, Bool, true, false, if◌then◌else◌, [], ◌∷◌, ◌++◌, Ok, refl, sym, ap, append_assoc}
 use Rattle.pvs_parser.specs.declared.terminal.Terminal.{Terminal}
 use Rattle.pvs_parser.specs.declared.terminal.TerminalKind.{TerminalKind}
 use Rattle.pvs_parser.specs.declared.terminal.TerminalKind.TheVariants as kind
@@ -12,14 +12,13 @@ use Rattle.pvs_parser.specs.Descent.{Answer, ◌>>=◌, too_deep, is_below}
 use Rattle.pvs_parser.specs.UnitDescent.{balanced_of, balanced, script, target, proof}
 use Rattle.pvs_parser.proofs.Gets.{both}
 use Rattle.pvs_parser.proofs.DescentSteps.{below_is, is_below_is, Splits, glue, put, alone, nothing}
-use Rattle.pvs_parser.proofs.DescentSound.{moved}
 use Rattle.pvs_parser.proofs.Scripts.{Closes, token_front, group_front, script_sound, target_sound}
-use Rattle.pvs_parser.proofs.Halts.{Stops, goes, stopped, bind, then_, expect_then, id_then, Wider, any, no_comma, Place, first, behind, past, upto, onto, same_place}
+use Rattle.pvs_parser.proofs.Halts.{Stops, goes, stopped, bind, then_, expect_then, id_then, Wider, any, no_comma, Place, first, behind, upto, onto}
 use Rattle.pvs_parser.proofs.HaltsBegins.{extend, tok}
 use Rattle.pvs_parser.proofs.HaltsUnitsWiden.{widen_balanced}
 use Rattle.pvs_parser.proofs.HaltsUnitsEnds.{is_end, id_is_no_end, last_is_end, last_of}
 use Rattle.pvs_parser.proofs.HaltsUnitsParts.{Starts, started}
-use Rattle.pvs_parser.proofs.HaltsUnitsSteps.{NoId, TextHalts, text_unexpected, text_nested, text_into}
+use Rattle.pvs_parser.proofs.HaltsUnitsSteps.{TextHalts, text_unexpected, text_nested, text_into}
 
 -- ---- tokens balanced in parentheses
 

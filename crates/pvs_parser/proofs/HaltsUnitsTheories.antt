@@ -1,5 +1,5 @@
 -- Theories: where their reading stops, the tokens before the stop can be completed.
-use Rattle.std.proofs.Common.{◌≡◌, ◌∙◌, ℕ, zero, suc, ◌+◌, Bool, true, false, bytes_eq, if◌then◌else◌, List, [], ◌∷◌, ◌++◌, length, None, Ok, Err, refl, sym, ap, subst, append-nil}
+use Rattle.std.proofs.Common.{◌≡◌, ℕ, zero, suc, ◌+◌, Bool, true, false, bytes_eq, if◌then◌else◌, List, [], ◌∷◌, ◌++◌, length, Ok, Err, refl, sym, ap, subst, append-nil}
 use Rattle.pvs_parser.specs.declared.failure.Reason.TheVariants as reason
 use Rattle.pvs_parser.specs.declared.terminal.Terminal.{Terminal}
 use Rattle.pvs_parser.specs.declared.terminal.TerminalKind.TheVariants as kind
@@ -10,10 +10,10 @@ use Rattle.pvs_parser.specs.Terminals.{Is, IsId}
 use Rattle.pvs_parser.specs.Language.{Limit, Tokens, IsBelow}
 use Rattle.pvs_parser.specs.Units.{DerivesFormalPart, DerivesDecl, DerivesAssumed, DerivesSemicolon, DerivesMany, DerivesAssuming, DerivesTheory, spelling}
 use Rattle.pvs_parser.specs.Descent.{◌>>=◌}
-use Rattle.pvs_parser.specs.UnitDescent.{declaration, assumed, comes_decl, past_semicolon, many_from, declarations, assumptions, assuming_part, heading, same_name, ending, theory}
+use Rattle.pvs_parser.specs.UnitDescent.{declaration, assumed, comes_decl, past_semicolon, many_from, declarations, assumptions, assuming_part, heading, ending, theory}
 use Rattle.pvs_parser.proofs.Yields.{Yields}
 use Rattle.pvs_parser.proofs.Gets.{both}
-use Rattle.pvs_parser.proofs.DescentSteps.{after_yields, Splits, glue, put, alone, nothing}
+use Rattle.pvs_parser.proofs.DescentSteps.{after_yields, glue, put, alone, nothing}
 use Rattle.pvs_parser.proofs.DescentSound.{moved}
 use Rattle.pvs_parser.proofs.Deeper.{Fore}
 use Rattle.pvs_parser.proofs.FormalLists.{formal_part_sound}
@@ -25,7 +25,7 @@ use Rattle.pvs_parser.proofs.HaltsBegins.{extend, tok}
 use Rattle.pvs_parser.proofs.HaltsUnitsWiden.{widen_formal_part, widen_decl, widen_assumed, widen_many, widen_assuming}
 use Rattle.pvs_parser.proofs.HaltsUnitsEnds.{is_end, NoEnd, joined, front_of, id_is_no_end, formal_part_no_end, decl_no_end, many_no_end, assuming_no_end, last_is_end, last_behind}
 use Rattle.pvs_parser.proofs.HaltsUnitsParts.{Starts, started, whole_of, beyond, PartBegun, formal_part_stops}
-use Rattle.pvs_parser.proofs.HaltsUnitsDecls.{DeclBegun, AssumedBegun, declaration_stops, assumed_stops}
+use Rattle.pvs_parser.proofs.HaltsUnitsDecls.{declaration_stops, assumed_stops}
 use Rattle.pvs_parser.proofs.HaltsUnitsSteps.{TextHalts, text_unexpected, text_wrong, id_else, part_into}
 
 -- ---- declarations one behind another
