@@ -50,13 +50,13 @@ formal_after_sound : (limit : Limit) (ns : Tokens) (ws : List Word) (u : Termina
 formal_after_sound limit ns ws u d colon [] = none
 formal_after_sound limit ns ws u d colon (t ∷ ts) = formal_of_sound limit ns ws u d colon t ts t.kind refl
 
-formal_sound : (limit : Limit) (ts : Tokens) → Yields (formal limit ts) (Fore (DerivesFormal limit) ts)
+pub formal_sound : (limit : Limit) (ts : Tokens) → Yields (formal limit ts) (Fore (DerivesFormal limit) ts)
 formal_sound limit ts =
     bind (ids_sound limit ts) (λ p f. bind (expect_yields kind.Colon p.1) (λ us a. weaken (λ q g. (f.0 ++ a.0 ∷ g.0, glue f.1 (put a.1 g.1), g.2)) (formal_after_sound limit f.0 p.0 a.0 f.2 a.2 us)))
 
 -- ---- formals with commas between them
 
-abbrev FormalsFront : Limit → ℕ → List Formal → Tokens → List Formal × Tokens → Type 0
+abbrev pub FormalsFront : Limit → ℕ → List Formal → Tokens → List Formal × Tokens → Type 0
 FormalsFront limit n before ts p = (k : ℕ) × (fs : List Formal) × (vs : Tokens) × Splits ts vs p.1 × (p.0 ≡ before ++ fs) × (k ≤ n) × DerivesFormals limit k vs fs
 
 more_formals : (limit : Limit) (n : ℕ) → AtMost limit (suc n) → (before : List Formal) (ts : Tokens) (p : List Formal × Tokens) → Fore (DerivesFormal limit) ts p → (us : Tokens) → Comes kind.Comma p.1 us
@@ -71,7 +71,7 @@ more_formals limit n most before ts p f us c q g = (
   DerivesFormals.more g.0 f.0 g.2 p.0 g.1 c.0 f.2 c.2 g.6 (below_at_most limit n g.0 most g.5),
 )
 
-from_sound : (limit : Limit) (n : ℕ) → AtMost limit n → (before : List Formal) (ts : Tokens) → Yields (formals_from limit n before ts) (FormalsFront limit n before ts)
+pub from_sound : (limit : Limit) (n : ℕ) → AtMost limit n → (before : List Formal) (ts : Tokens) → Yields (formals_from limit n before ts) (FormalsFront limit n before ts)
 unfolding formals_from
 from_sound limit zero most before ts = crowded_yields is_id ts
 from_sound limit (suc n) most before ts =

@@ -237,7 +237,7 @@ why_inner G K f through k before rest reason.Unexpected y = tt
 why_inner G K f through k before rest reason.TooNested y = (y.0, y.1, y.2, y.3, subst (λ z. K None z) (through before (y.0 ∷ [])) (k (before ++ y.0 ∷ []) y.4))
 why_inner G K f through k before rest reason.WrongEnd y = y
 
-within_inner : {limit : Limit} {G K : Limit → Tokens → Type 0} (f : Tokens → Tokens) → ((p q : Tokens) → f (p ++ q) ≡ f p ++ q) → ((p : Tokens) → G limit p → K limit (f p)) → (before : Tokens) → G limit before ⊎ Full limit G before → K limit (f before) ⊎ Full limit K (f before)
+pub within_inner : {limit : Limit} {G K : Limit → Tokens → Type 0} (f : Tokens → Tokens) → ((p q : Tokens) → f (p ++ q) ≡ f p ++ q) → ((p : Tokens) → G limit p → K limit (f p)) → (before : Tokens) → G limit before ⊎ Full limit G before → K limit (f before) ⊎ Full limit K (f before)
 within_inner f through k before (inl g) = inl (k before g)
 within_inner f through k before (inr g) = inr (record {
   front = f g.front;

@@ -62,7 +62,7 @@ pub record ListBegun (w : Limit) (i : Item) (found : ℕ) (l : Nesting) (p : Tok
   pub derives : Derives w (list i) l all (x ∷ xs) behind
   pub fits : IsBelow w (found + length xs)
 
-made : {w : Limit} {s : Nonterminal} {l m : Nesting} {all p more : Tokens} {x : Tree s} → Splits all p more → Derives w s l all x m → Completes w s l p
+pub made : {w : Limit} {s : Nonterminal} {l m : Nesting} {all p more : Tokens} {x : Tree s} → Splits all p more → Derives w s l all x m → Completes w s l p
 made {m = m} {all = all} {more = more} {x = x} s d = record { all = all; more = more; split = s; tree = x; behind = m; derives = d }
 
 pub completed : {w : Limit} {s : Nonterminal} {l m : Nesting} {ts : Tokens} {x : Tree s} → Derives w s l ts x m → Completes w s l ts
@@ -196,7 +196,7 @@ value_begun {l = l} {t = t} {u = u} is equal g = let c = g.1 in made (put refl (
 
 -- ---- lists
 
-below_le : (w : Limit) (m n : ℕ) → IsBelow w n → m ≤ n → IsBelow w m
+pub below_le : (w : Limit) (m n : ℕ) → IsBelow w n → m ≤ n → IsBelow w m
 below_le (Some most) m n lt le = omega (arith, lt, le)
 below_le None m n lt le = lt
 

@@ -38,13 +38,13 @@ pub record Halting (go : Go) (a : ℕ) : Type 0 where
 
 -- ---- numbers of tokens
 
-next : {us vs : Tokens} {t : Terminal} (a : ℕ) → us ≡ t ∷ vs → length us < a → length vs < a
+pub next : {us vs : Tokens} {t : Terminal} (a : ℕ) → us ≡ t ∷ vs → length us < a → length vs < a
 next {us = us} {vs = vs} a e small = let h : length us ≡ suc (length vs) = ap length e in omega (arith, h, small)
 
 next_le : {us vs : Tokens} {t : Terminal} (a : ℕ) → us ≡ t ∷ vs → length us ≤ a → length vs < a
 next_le {us = us} {vs = vs} a e small = let h : length us ≡ suc (length vs) = ap length e in omega (arith, h, small)
 
-rest : {us vs ws : Tokens} (a : ℕ) → Splits us vs ws → length us < a → length ws < a
+pub rest : {us vs ws : Tokens} (a : ℕ) → Splits us vs ws → length us < a → length ws < a
 rest a s small = omega (arith, splits_shorter s, small)
 
 rest_le : {us vs ws : Tokens} (a : ℕ) → Splits us vs ws → length us ≤ a → length ws ≤ a
@@ -66,15 +66,15 @@ qualified_stops l ts us vs w xs d split i is = id_then vs _ (unexpected (glue sp
 
 -- ---- lists
 
-at_most_below : (limit : Limit) (n k : ℕ) → AtMost limit (suc n + k) → IsBelow limit k
+pub at_most_below : (limit : Limit) (n k : ℕ) → AtMost limit (suc n + k) → IsBelow limit k
 at_most_below (Some most) n k le = omega (arith, le)
 at_most_below None n k le = any k
 
-at_most_next : (limit : Limit) (n k : ℕ) → AtMost limit (suc (suc n) + k) → AtMost limit (suc n + suc k)
+pub at_most_next : (limit : Limit) (n k : ℕ) → AtMost limit (suc (suc n) + k) → AtMost limit (suc n + suc k)
 at_most_next (Some most) n k le = omega (arith, le)
 at_most_next None n k le = le
 
-at_most_zero : (limit : Limit) (n : ℕ) → AtMost limit (suc n) → AtMost limit (suc n + 0)
+pub at_most_zero : (limit : Limit) (n : ℕ) → AtMost limit (suc n) → AtMost limit (suc n + 0)
 at_most_zero (Some most) n le = omega (arith, le)
 at_most_zero None n le = le
 

@@ -20,10 +20,10 @@ abbrev NamesFront : Limit → ℕ → List Word → Tokens → List Word × Nest
 NamesFront limit n before ts p = (ws : List Word) × (vs : Tokens) × Splits ts vs p.2 × (p.0 ≡ before ++ ws) × (length ws ≤ n) × DerivesIds limit vs ws
 
 -- an identifier stands first
-abbrev NameFront : Tokens → Word × Nesting × Tokens → Type 0
+abbrev pub NameFront : Tokens → Word × Nesting × Tokens → Type 0
 NameFront ts p = (t : Terminal) × (ts ≡ t ∷ p.2) × IsId t × (t.word ≡ p.0)
 
-name_sound : (l : Nesting) (ts : Tokens) → Yields (name l ts) (NameFront ts)
+pub name_sound : (l : Nesting) (ts : Tokens) → Yields (name l ts) (NameFront ts)
 name_sound l ts = id_bind ts _ (λ t us e is. here (t, e, is, refl))
 
 one_name : (limit : Limit) (n : ℕ) (before : List Word) (ts : Tokens) (p : Word × Nesting × Tokens) → NameFront ts p → NamesFront limit (suc n) before ts (before ++ p.0 ∷ [], p.1, p.2)

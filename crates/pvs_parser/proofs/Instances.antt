@@ -20,7 +20,7 @@ use Rattle.pvs_parser.proofs.Wholes.{PlainInst, InstWith, inst_cases}
 use Rattle.pvs_parser.proofs.Deeper.{Fore, framed_sound, actuals_complete}
 use Rattle.pvs_parser.proofs.Behind.{DeclEnds, decl_comma, decl_bracket}
 
-abbrev IsInst : Limit → Tokens → InstExpr → Type 0
+abbrev pub IsInst : Limit → Tokens → InstExpr → Type 0
 IsInst limit ts i = (m : Nesting) × Derives limit l.inst outermost ts i m
 
 inst_with : (limit : Limit) (ts us vs : Tokens) (xs : List Actual) (k : Nesting) (t u v : Terminal) → IsId t → Is kind.OpenBracket u → vs ≡ us ++ v ∷ [] → l.HasRoom limit outermost
@@ -28,7 +28,7 @@ inst_with : (limit : Limit) (ts us vs : Tokens) (xs : List Actual) (k : Nesting)
 inst_with limit ts us vs xs k t u v is opened e lt d close =
     (outermost, subst (λ z. Derives limit l.inst outermost (t ∷ u ∷ z) (instance t.word xs) outermost) (sym e) (Derives.inst_with outermost k us xs t u v is opened lt d close))
 
-inst_sound : (limit : Limit) (ts : Tokens) → Yields (inst limit ts) (Fore (IsInst limit) ts)
+pub inst_sound : (limit : Limit) (ts : Tokens) → Yields (inst limit ts) (Fore (IsInst limit) ts)
 inst_sound limit ts = id_bind ts _ (λ t us e is. cases
     (λ vs a. let c = (after_yields kind.OpenBracket us).holds vs a in
     bind (framed_sound limit Item.Parameter kind.CloseBracket vs) (λ p f.

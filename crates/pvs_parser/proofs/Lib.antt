@@ -40,3 +40,11 @@ pub mod HaltsBegins
 pub mod HaltsDescent
 pub mod HaltsWholes
 pub mod Answers
+pub mod HaltsUnitsWiden
+pub mod HaltsUnitsEnds
+pub mod HaltsUnitsParts
+pub mod HaltsUnitsDecls
+pub mod HaltsUnitsSteps
+pub mod HaltsUnitsTheories
+pub mod HaltsUnitsProofs
+pub mod HaltsUnits

@@ -17,14 +17,14 @@ use Rattle.pvs_parser.proofs.Behind.{ends_decl, DeclEnds, decl_at}
 use Rattle.pvs_parser.proofs.DeclsRead.{DeclComes}
 
 -- how declarations of a kind are read
-abbrev Reader : Type 0
+abbrev pub Reader : Type 0
 Reader = Tokens → Answer (List Decl × Tokens)
 
 semicolon_of : (ts : Tokens) (o : Option Tokens) → after kind.Semicolon ts ≡ o → (ss : Tokens) × Splits ts ss (either o (λ us. us) ts) × DerivesSemicolon ss
 semicolon_of ts (Some us) a = let c = (after_yields kind.Semicolon ts).holds us a in (c.0 ∷ [], alone c.1, DerivesSemicolon.semicolon c.0 c.2)
 semicolon_of ts None a = ([], nothing, DerivesSemicolon.none)
 
-semicolon_sound : (ts : Tokens) → (ss : Tokens) × Splits ts ss (past_semicolon ts) × DerivesSemicolon ss
+pub semicolon_sound : (ts : Tokens) → (ss : Tokens) × Splits ts ss (past_semicolon ts) × DerivesSemicolon ss
 semicolon_sound ts = semicolon_of ts (after kind.Semicolon ts) refl
 
 -- a front of the tokens is declarations, which come behind those found

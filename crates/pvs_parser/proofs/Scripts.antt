@@ -18,15 +18,15 @@ use Rattle.pvs_parser.proofs.Deeper.{Fore}
 -- ---- tokens balanced in parentheses
 
 -- Balanced tokens, the parenthesis that closes them, and so on, where so many more parentheses are open than one. The word is that of the last.
-abbrev Closes : Limit → ℕ → Tokens → Word × Tokens → Type 0
+abbrev pub Closes : Limit → ℕ → Tokens → Word × Tokens → Type 0
 Closes limit zero ts p = (vs : Tokens) × (z : Terminal) × Splits ts vs (z ∷ p.1) × Balanced limit 1 vs × Is kind.Close z × (z.word ≡ p.0)
 Closes limit (suc n) ts p = (vs : Tokens) × (z : Terminal) × (rest : Tokens) × Splits ts vs (z ∷ rest) × Balanced limit (suc (suc n)) vs × Is kind.Close z × Closes limit n rest p
 
-token_front : (limit : Limit) (n : ℕ) (t : Terminal) (ts : Tokens) (p : Word × Tokens) → is_plain t.kind ≡ true → Closes limit n ts p → Closes limit n (t ∷ ts) p
+pub token_front : (limit : Limit) (n : ℕ) (t : Terminal) (ts : Tokens) (p : Word × Tokens) → is_plain t.kind ≡ true → Closes limit n ts p → Closes limit n (t ∷ ts) p
 token_front limit zero t ts p plain c = (t ∷ c.0, c.1, put refl c.2, Balanced.token 1 c.0 t plain c.3, c.4, c.5)
 token_front limit (suc n) t ts p plain c = (t ∷ c.0, c.1, c.2, put refl c.3, Balanced.token (suc (suc n)) c.0 t plain c.4, c.5, c.6)
 
-group_front : (limit : Limit) (n : ℕ) (t : Terminal) (ts : Tokens) (p : Word × Tokens) → Is kind.Open t → IsBelow limit (suc n) → Closes limit (suc n) ts p → Closes limit n (t ∷ ts) p
+pub group_front : (limit : Limit) (n : ℕ) (t : Terminal) (ts : Tokens) (p : Word × Tokens) → Is kind.Open t → IsBelow limit (suc n) → Closes limit (suc n) ts p → Closes limit n (t ∷ ts) p
 group_front limit zero t ts p opened lt c =
     let d = c.6 in
     (t ∷ (c.0 ++ c.1 ∷ d.0), d.1, put refl (glue c.3 (put refl d.2)), Balanced.group 1 c.0 d.0 t c.1 opened lt c.4 c.5 d.3, d.4, d.5)
@@ -54,19 +54,19 @@ balanced_sound limit n (t ∷ ts) = balanced_of_sound limit n t ts (λ m. balanc
 -- ---- proofs
 
 -- a script, from its parenthesis to the one that closes it
-record ScriptFront (limit : Limit) (ts : Tokens) (p : Word × Word × Tokens) : Type 0 where
-  y : Terminal
-  z : Terminal
-  us : Tokens
-  vs : Tokens
-  first : ts ≡ y ∷ us
-  split : Splits us vs (z ∷ p.2)
-  opened : Is kind.Open y
-  room : IsBelow limit 0
-  inner : Balanced limit 1 vs
-  closed : Is kind.Close z
-  first_is : y.word ≡ p.0
-  last_is : z.word ≡ p.1
+pub record ScriptFront (limit : Limit) (ts : Tokens) (p : Word × Word × Tokens) : Type 0 where
+  pub y : Terminal
+  pub z : Terminal
+  pub us : Tokens
+  pub vs : Tokens
+  pub first : ts ≡ y ∷ us
+  pub split : Splits us vs (z ∷ p.2)
+  pub opened : Is kind.Open y
+  pub room : IsBelow limit 0
+  pub inner : Balanced limit 1 vs
+  pub closed : Is kind.Close z
+  pub first_is : y.word ≡ p.0
+  pub last_is : z.word ≡ p.1
 
 inner_sound : (limit : Limit) (t : Terminal) (us : Tokens) → Is kind.Open t → (b : Bool) → is_below limit 0 ≡ b → Yields (if b then (balanced limit 0 us >>= λ p. Ok (t.word, p.0, p.1)) else too_deep us) (ScriptFront limit (t ∷ us))
 inner_sound limit t us opened true is = bind (balanced_sound limit 0 us) (λ p c. here (record {
@@ -91,27 +91,27 @@ heads_same t u ts us e = cc
 tails_same : (t u : Terminal) (ts us : Tokens) → t ∷ ts ≡ u ∷ us → ts ≡ us
 tails_same t u ts us e = cc
 
-script_sound : (limit : Limit) (ts : Tokens) → Yields (script limit ts) (ScriptFront limit ts)
+pub script_sound : (limit : Limit) (ts : Tokens) → Yields (script limit ts) (ScriptFront limit ts)
 script_sound limit [] = none
 script_sound limit (t ∷ ts) = bind (expect_yields kind.Open (t ∷ ts)) (λ us a.
     weaken (λ p f. subst (λ z. ScriptFront limit (t ∷ z) p) (sym (tails_same t a.0 ts us a.1)) f)
     (inner_sound limit t us (ap (λ z. z.kind) (heads_same t a.0 ts us a.1) ∙ a.2) (is_below limit 0) refl))
 
 -- the names of a theory and of a formula
-record TargetFront (ts : Tokens) (p : Word × Word × Tokens) : Type 0 where
-  u : Terminal
-  v : Terminal
-  w : Terminal
-  x : Terminal
-  tokens : ts ≡ u ∷ v ∷ w ∷ x ∷ p.2
-  word : Is kind.Proof u
-  theory : IsId v
-  dot : Is kind.Dot w
-  formula : IsId x
-  theory_is : v.word ≡ p.0
-  formula_is : x.word ≡ p.1
+pub record TargetFront (ts : Tokens) (p : Word × Word × Tokens) : Type 0 where
+  pub u : Terminal
+  pub v : Terminal
+  pub w : Terminal
+  pub x : Terminal
+  pub tokens : ts ≡ u ∷ v ∷ w ∷ x ∷ p.2
+  pub word : Is kind.Proof u
+  pub theory : IsId v
+  pub dot : Is kind.Dot w
+  pub formula : IsId x
+  pub theory_is : v.word ≡ p.0
+  pub formula_is : x.word ≡ p.1
 
-target_sound : (ts : Tokens) → Yields (target ts) (TargetFront ts)
+pub target_sound : (ts : Tokens) → Yields (target ts) (TargetFront ts)
 target_sound ts = bind (expect_yields kind.Proof ts) (λ us a. id_bind us _ (λ v xs e is. bind (expect_yields kind.Dot xs) (λ ys b. id_bind ys _ (λ x zs g is2. here (record {
   u = a.0;
   v = v;

@@ -26,25 +26,25 @@ use Rattle.pvs_parser.proofs.Many.{many_sound, many_complete, many_no_assuming, 
 -- ---- what is read is in the grammar
 
 -- the name and the formals of a theory, up to BEGIN
-record HeadFront (limit : Limit) (ts : Tokens) (p : Word × List Formal × Tokens) : Type 0 where
-  t : Terminal
-  u : Terminal
-  v : Terminal
-  w : Terminal
-  vs : Tokens
-  us : Tokens
-  rest : Tokens
-  first : ts ≡ t ∷ us
-  split : Splits us vs rest
-  last : rest ≡ u ∷ v ∷ w ∷ p.2
-  id : IsId t
-  formals : DerivesFormalPart limit vs p.1
-  colon : Is kind.Colon u
-  word : Is kind.Theory v
-  begin : Is kind.Begin w
-  is : t.word ≡ p.0
+pub record HeadFront (limit : Limit) (ts : Tokens) (p : Word × List Formal × Tokens) : Type 0 where
+  pub t : Terminal
+  pub u : Terminal
+  pub v : Terminal
+  pub w : Terminal
+  pub vs : Tokens
+  pub us : Tokens
+  pub rest : Tokens
+  pub first : ts ≡ t ∷ us
+  pub split : Splits us vs rest
+  pub last : rest ≡ u ∷ v ∷ w ∷ p.2
+  pub id : IsId t
+  pub formals : DerivesFormalPart limit vs p.1
+  pub colon : Is kind.Colon u
+  pub word : Is kind.Theory v
+  pub begin : Is kind.Begin w
+  pub is : t.word ≡ p.0
 
-heading_sound : (limit : Limit) (ts : Tokens) → Yields (heading limit ts) (HeadFront limit ts)
+pub heading_sound : (limit : Limit) (ts : Tokens) → Yields (heading limit ts) (HeadFront limit ts)
 heading_sound limit ts = id_bind ts _ (λ t us e is. bind (formal_part_sound limit us) (λ q f. bind (expect_yields kind.Colon q.1) (λ xs a. bind (expect_yields kind.Theory xs) (λ ys b. bind (expect_yields kind.Begin ys) (λ zs c. here (record {
   t = t;
   u = a.0;
@@ -68,7 +68,7 @@ assuming_sound : (limit : Limit) (t : Terminal) (ts us : Tokens) → ts ≡ t �
 assuming_sound limit t ts us e is =
     bind (many_sound (assumed limit) (DerivesAssumed limit) (assumed_sound limit) us) (λ p f. bind (expect_yields kind.EndAssuming p.1) (λ vs a. here (t ∷ (f.0 ++ a.0 ∷ []), put e (glue f.1 (alone a.1)), DerivesAssuming.assuming f.0 p.0 t a.0 is f.2 a.2)))
 
-assuming_part_sound : (limit : Limit) (ts : Tokens) → Yields (assuming_part limit ts) (Fore (DerivesAssuming limit) ts)
+pub assuming_part_sound : (limit : Limit) (ts : Tokens) → Yields (assuming_part limit ts) (Fore (DerivesAssuming limit) ts)
 assuming_part_sound limit ts = cases
     (λ us a. let c = (after_yields kind.Assuming ts).holds us a in assuming_sound limit c.0 ts us c.1 c.2)
     (λ a. here ([], nothing, DerivesAssuming.none))

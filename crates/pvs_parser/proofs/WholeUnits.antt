@@ -31,7 +31,7 @@ item_sound limit text ts = cases
     (λ us a. let c = (after_yields kind.Open ts).holds us a in bind (proof_sound limit c.0 ts us c.1 c.2) (λ p f. here (f.0, f.1, f.2)))
     (λ a. bind (theory_sound limit text ts) (λ p f. here (f.0, f.1, f.2)))
 
-item_before : (limit : Limit) (text : List ℕ) (ts us : Tokens) (i : Item) (is : List Item) → IsItem limit text ts i → DerivesItems limit text us is → DerivesItems limit text (ts ++ us) (i ∷ is)
+pub item_before : (limit : Limit) (text : List ℕ) (ts us : Tokens) (i : Item) (is : List Item) → IsItem limit text ts i → DerivesItems limit text us is → DerivesItems limit text (ts ++ us) (i ∷ is)
 item_before limit text ts us (item.Theory t) is d e = DerivesItems.theory ts us t is d e
 item_before limit text ts us (item.Proof p) is d e = DerivesItems.proof ts us p is d e
 
