@@ -25,3 +25,6 @@ pub use grammar::one_expression;
 pub use nesting::Nesting;
 pub use start::Start;
 pub use terminal::{Connective, Prefix, Terminal, TerminalKind};
+
+#[cfg(test)]
+mod tests;
