@@ -1,6 +1,5 @@
 -- What is read of expressions and types is in the grammar.
-use Rattle.std.proofs.Common.{◌≡◌, ◌∙◌, ℕ, zero, suc, ◌==◌, ◌<◌, ◌≤◌, Bool, true, false, if◌then◌else◌, List, [], ◌∷◌, ◌++◌, length, Option, Some, None, Ok, Err, refl, sym, ap, subst, append_assoc, length-append, arith}
-use Rattle.pvs_parser.specs.declared.failure.Stop.{Stop}
+use Rattle.std.proofs.Common.{◌≡◌, ◌∙◌, ℕ, zero, suc, ◌<◌, ◌≤◌, Bool, true, false, if◌then◌else◌, List, [], ◌∷◌, ◌++◌, length, Option, Some, None, refl, sym, ap, subst, append_assoc, length-append, arith}
 use Rattle.pvs_parser.specs.declared.nesting.Nesting.{Nesting}
 use Rattle.pvs_parser.specs.declared.start.Start.{Start}
 use Rattle.pvs_parser.specs.declared.start.Start.TheVariants as start
@@ -52,7 +51,7 @@ pub record Sound (go : Go) : Type 0 where
 
 -- ---- items
 
-abbrev ItemFront : Limit → (i : Item) → Nesting → Tokens → ItemTree i × Nesting × Tokens → Type 0
+abbrev pub ItemFront : Limit → (i : Item) → Nesting → Tokens → ItemTree i × Nesting × Tokens → Type 0
 ItemFront limit i l ts p = Front limit (item i) l ts p
 
 head_same : (t u : Terminal) (ts us : Tokens) → t ∷ ts ≡ u ∷ us → t ≡ u
@@ -71,7 +70,7 @@ type_headed go sound l t ts = weaken (λ p f.
     let e = headed t n.0 ts n.1 f.0 p.2 f.1 n.2 in
     (n.1, subst (λ z. Splits (t ∷ ts) z p.2) e f.1, subst (λ z. Derives go.limit type_ l z p.0 p.1) e f.2)) (sound.type l (t ∷ ts))
 
-expression_sound : (go : Go) → Sound go → (l : Nesting) (ts : Tokens) → Yields (deeper go l ts) (ItemFront go.limit Item.Expression l ts)
+pub expression_sound : (go : Go) → Sound go → (l : Nesting) (ts : Tokens) → Yields (deeper go l ts) (ItemFront go.limit Item.Expression l ts)
 expression_sound go sound l ts = weaken (λ p f. (f.1, f.2, Derives.expression f.0 l p.1 f.1 p.0 f.3)) (sound.expr (start.Chain connective.Iff) l ts)
 
 parameter_of_sound : (go : Go) → Sound go → (l : Nesting) (t : Terminal) (ts : Tokens) (b : Bool) → begins_type t.kind ≡ b → Yields (parameter_of go l (t ∷ ts) b) (ItemFront go.limit Item.Parameter l (t ∷ ts))
@@ -116,7 +115,7 @@ definition_sound go sound l ts = id_bind ts _ (λ t us e is. cases
       Derives.untyped_part g.0 l q.1 g.1 q.0 t b.0 is b.2 g.3,
     )))))
 
-item_sound : (go : Go) → Sound go → (i : Item) (l : Nesting) (ts : Tokens) → Yields (item_with go i l ts) (ItemFront go.limit i l ts)
+pub item_sound : (go : Go) → Sound go → (i : Item) (l : Nesting) (ts : Tokens) → Yields (item_with go i l ts) (ItemFront go.limit i l ts)
 item_sound go sound Item.Expression l ts = expression_sound go sound l ts
 item_sound go sound Item.Parameter l ts = parameter_sound go sound l ts
 item_sound go sound Item.Component l ts = component_sound go sound l ts
@@ -149,7 +148,7 @@ crowded_of : {B : Type 0} (ts : Tokens) (b : Bool) {Q : B → Type 0} → Yields
 crowded_of ts true = none
 crowded_of ts false = none
 
-crowded_yields : {B : Type 0} (starts : TerminalKind → Bool) (ts : Tokens) {Q : B → Type 0} → Yields (crowded starts ts) Q
+pub crowded_yields : {B : Type 0} (starts : TerminalKind → Bool) (ts : Tokens) {Q : B → Type 0} → Yields (crowded starts ts) Q
 crowded_yields starts [] = none
 crowded_yields starts (t ∷ ts) = crowded_of (t ∷ ts) (starts t.kind)
 
@@ -162,7 +161,7 @@ list_sound {limit = limit} i starts reads sound (suc n) most found l ts =
     (λ us a. weaken (λ q g. list_more i n most found l ts p f us ((after_yields kind.Comma p.2).holds us a) q g) (list_sound i starts reads sound n (fewer limit n most) (found ++ p.0 ∷ []) (cleared p.1) us))
     (λ a. here (list_one i n found l ts p f)))
 
-list_with_sound : (go : Go) → Sound go → (i : Item) (l : Nesting) (ts : Tokens) → Yields (list_with go i l ts) (Front go.limit (list i) l ts)
+pub list_with_sound : (go : Go) → Sound go → (i : Item) (l : Nesting) (ts : Tokens) → Yields (list_with go i l ts) (Front go.limit (list i) l ts)
 list_with_sound go sound i l ts =
     weaken (λ p f. (f.1, f.2, subst (λ z. Derives go.limit (list i) l f.1 z p.1) (sym f.3) f.5))
     (list_sound i (starts_item i) (item_with go i) (λ l ts. item_sound go sound i l ts) (entries go.limit ts) (entries_at_most go.limit ts) [] l ts)
@@ -185,7 +184,7 @@ qualified_sound : {limit : Limit} (l : Nesting) (ts us rest : Tokens) (w : Word)
 qualified_sound l ts us rest w xs d split i is =
     id_bind rest _ (λ t vs e id_is. here (us ++ d ∷ t ∷ [], glue split (put refl (alone e)), Derives.qualified_name l l us (instance w xs) d t i is id_is))
 
-moved : {ts us vs rest : Tokens} → Splits ts us vs → vs ≡ rest → Splits ts us rest
+pub moved : {ts us vs rest : Tokens} → Splits ts us vs → vs ≡ rest → Splits ts us rest
 moved {ts = ts} {us = us} s e = subst (λ z. Splits ts us z) e s
 
 -- behind an identifier
@@ -201,7 +200,7 @@ name_after_sound go sound l t us is = cases
 
 -- ---- terms
 
-abbrev FirstFront : Limit → Nesting → Tokens → Expr × Bool × Tokens → Type 0
+abbrev pub FirstFront : Limit → Nesting → Tokens → Expr × Bool × Tokens → Type 0
 FirstFront limit l ts p = (vs : Tokens) × Splits ts vs p.2 × Derives limit (form (Form.Term p.1)) l vs p.0 l
 
 -- what stands behind IF or ELSIF
@@ -223,10 +222,10 @@ record CondFront (limit : Limit) (w : Word) (l : Nesting) (ts : Tokens) (p : Exp
   is : expr.Cond c x y w.pos ≡ p.0
 
 -- an expression up to THEN
-abbrev ConditionFront : Limit → Nesting → Tokens → Expr × Nesting × Tokens → Type 0
+abbrev pub ConditionFront : Limit → Nesting → Tokens → Expr × Nesting × Tokens → Type 0
 ConditionFront limit l ts p = (vs : Tokens) × (u : Terminal) × (k : Nesting) × Splits ts (vs ++ u ∷ []) p.2 × Derives limit (item Item.Expression) l vs p.0 k × Is kind.Then u × (p.1 ≡ cleared k)
 
-condition_sound : (go : Go) → Sound go → (l : Nesting) (ts : Tokens) → Yields (condition_with go l ts) (ConditionFront go.limit l ts)
+pub condition_sound : (go : Go) → Sound go → (l : Nesting) (ts : Tokens) → Yields (condition_with go l ts) (ConditionFront go.limit l ts)
 condition_sound go sound l ts =
     bind (expression_sound go sound l ts) (λ p f. bind (expect_yields kind.Then p.2) (λ us a. here (f.0, a.0, p.1, glue f.1 (alone a.1), f.2, a.2, refl)))
 
@@ -265,7 +264,7 @@ first_of_sound go sound l t ts kind.If is =
     )))
 first_of_sound go sound l t ts _ is = none
 
-first_sound : (go : Go) → Sound go → (l : Nesting) (ts : Tokens) → Yields (first_with go l ts) (FirstFront go.limit l ts)
+pub first_sound : (go : Go) → Sound go → (l : Nesting) (ts : Tokens) → Yields (first_with go l ts) (FirstFront go.limit l ts)
 first_sound go sound l [] = none
 first_sound go sound l (t ∷ ts) = first_of_sound go sound l t ts t.kind refl
 
@@ -299,24 +298,24 @@ empty_ends [] n e = omega arith
 empty_ends (t ∷ ts) n e = absurd (omega (arith, e))
 
 -- a term, and what is read behind it
-abbrev TermFront : Limit → Nesting → Tokens → Tokens → Expr × Nesting × Tokens → Type 0
+abbrev pub TermFront : Limit → Nesting → Tokens → Tokens → Expr × Nesting × Tokens → Type 0
 TermFront limit l all ts p = (b : Bool) × (vs : Tokens) × Splits all vs p.2 × Derives limit (form (Form.Term b)) l vs p.0 p.1 × (pull_of p.2 < 6)
 
 call_mark_sound : {B : Type 0} (limit : Limit) (b : Bool) (l : Nesting) (ts : Tokens) (f : Nesting → Answer B) (Q : B → Type 0) → Yields (f (before_call b l)) Q → Yields (call_mark limit b l ts >>= f) Q
 call_mark_sound limit true l ts f Q g = room limit l (marked l) ts f (λ lt. g)
 call_mark_sound limit false l ts f Q g = g
 
-splits_shorter : {ts us vs : Tokens} → Splits ts us vs → length vs ≤ length ts
+pub splits_shorter : {ts us vs : Tokens} → Splits ts us vs → length vs ≤ length ts
 splits_shorter {ts = ts} {us = us} {vs = vs} s = let e : length ts ≡ length (us ++ vs) = ap length s.same in omega (arith, e, length-append us vs)
 
 -- behind a token, a part is shorter than the whole
 shorter : {ts us vs rest : Tokens} {t : Terminal} (n : ℕ) → ts ≡ t ∷ us → Splits us vs rest → length ts ≤ suc n → length rest ≤ n
 shorter {ts = ts} {us = us} n e s g = let h : length ts ≡ suc (length us) = ap length e in omega (arith, g, h, splits_shorter s)
 
-abbrev CallFront : Limit → Nesting → Tokens → Tokens → Expr × Nesting × Tokens → Type 0
+abbrev pub CallFront : Limit → Nesting → Tokens → Tokens → Expr × Nesting × Tokens → Type 0
 CallFront limit l0 all us p = (vs : Tokens) × Splits all vs p.2 × Derives limit (form (Form.Term true)) l0 vs p.0 p.1 × ((ws : Tokens) × Splits us ws p.2)
 
-call_sound : (go : Go) → Sound go → (b : Bool) (x : Expr) (l0 l : Nesting) (all vs ts us : Tokens) → Splits all vs ts → Derives go.limit (form (Form.Term b)) l0 vs x l → Comes kind.Open ts us
+pub call_sound : (go : Go) → Sound go → (b : Bool) (x : Expr) (l0 l : Nesting) (all vs ts us : Tokens) → Splits all vs ts → Derives go.limit (form (Form.Term b)) l0 vs x l → Comes kind.Open ts us
     → Yields (call_with go b x l us) (CallFront go.limit l0 all us)
 call_sound go sound b x l0 l all vs ts us s d c =
     call_mark_sound go.limit b l us _ (CallFront go.limit l0 all us) (bind (framed_sound go sound Item.Expression kind.Close (before_call b l) us) (λ p f. here (
@@ -326,7 +325,7 @@ call_sound go sound b x l0 l all vs ts us s d c =
       (f.0 ++ f.1 ∷ [], f.3),
     )))
 
-project_sound : {limit : Limit} (b : Bool) (x : Expr) (l0 l : Nesting) (all vs ts us : Tokens) → Splits all vs ts → Derives limit (form (Form.Term b)) l0 vs x l → Comes kind.Backquote ts us
+pub project_sound : {limit : Limit} (b : Bool) (x : Expr) (l0 l : Nesting) (all vs ts us : Tokens) → Splits all vs ts → Derives limit (form (Form.Term b)) l0 vs x l → Comes kind.Backquote ts us
     → Yields (project limit x l us) (CallFront limit l0 all us)
 project_sound {limit = limit} b x l0 l all vs ts us s d c =
     room limit l (marked l) us _ (λ lt. bind (number_yields us) (λ p f. here (
@@ -348,7 +347,7 @@ term_from_sound go sound (suc n) b x l0 l all vs ts s d small = cases
     bind (project_sound b x l0 l all vs ts us s d c) (λ p f. term_from_sound go sound n true p.0 l0 p.1 all f.0 p.2 f.1 f.2 (shorter n c.1 f.3.1 small)))
     (λ e. here (b, vs, s, d, not_called ts a e)))
 
-term_sound : (go : Go) → Sound go → (l : Nesting) (ts : Tokens) → Yields (term_with go l ts) (TermFront go.limit l ts ts)
+pub term_sound : (go : Go) → Sound go → (l : Nesting) (ts : Tokens) → Yields (term_with go l ts) (TermFront go.limit l ts ts)
 term_sound go sound l ts =
     bind (first_sound go sound l ts) (λ p f. weaken (λ q g. g) (term_from_sound go sound (length ts) p.1 p.0 l l ts f.0 p.2 f.1 f.2 (splits_shorter f.1)))
 
@@ -444,7 +443,7 @@ not_sound go sound l t ts us e is =
     )))
 
 -- what a prefix says of its terminal
-abbrev IsPrefix : Terminal → Prefix → Type 0
+abbrev pub IsPrefix : Terminal → Prefix → Type 0
 IsPrefix t prefixes.Negation = Is kind.Not t
 IsPrefix t (prefixes.Binder b) = binder_word t.kind ≡ Some b
 IsPrefix t prefixes.Local = Is kind.Let t
@@ -453,7 +452,7 @@ is_prefix_of_binder : (t : Terminal) (o : Option BinderWord) → binder_word t.k
 is_prefix_of_binder t (Some b) is p e = let same : prefixes.Binder b ≡ p = cc in subst (λ z. IsPrefix t z) same is
 is_prefix_of_binder t None is p e = cc
 
-is_prefix_kind : (t : Terminal) (k : TerminalKind) → t.kind ≡ k → (p : Prefix) → prefix k ≡ Some p → IsPrefix t p
+pub is_prefix_kind : (t : Terminal) (k : TerminalKind) → t.kind ≡ k → (p : Prefix) → prefix k ≡ Some p → IsPrefix t p
 is_prefix_kind t kind.Not is p e = let same : prefixes.Negation ≡ p = cc in subst (λ z. IsPrefix t z) same is
 is_prefix_kind t kind.Let is p e = let same : prefixes.Local ≡ p = cc in subst (λ z. IsPrefix t z) same is
 is_prefix_kind t kind.Forall is p e = is_prefix_of_binder t (Some binders.Forall) (ap binder_word is) p e
@@ -515,7 +514,7 @@ compared_sound go sound (suc n) x l0 l all vs ts s d lt small = cases
     (Derives.compares f.0 l0 l r.1 vs f.1 x r.0 p.0 c.0 d c.2 has f.3) f.4 (shorter n c.1 f.2 small)))))
     (λ a. here (Plain, vs, s, Derives.compared l0 l vs x d, not_compared ts a lt))
 
-operand_sound : (go : Go) → Sound go → (l : Nesting) (ts : Tokens) → Yields (operand_with go l ts) (OperandFront go.limit l ts)
+pub operand_sound : (go : Go) → Sound go → (l : Nesting) (ts : Tokens) → Yields (operand_with go l ts) (OperandFront go.limit l ts)
 operand_sound go sound l ts = begins_cases ts _ _
     (λ t us q e is. weaken (λ r f. (f.0, f.1, f.2, Derives.prefixed f.0 l r.1 f.1 r.0 f.3, as_operand f.0 r.2 f.4)) (prefixed_sound go sound l t ts us e q is))
     (bind (term_sound go sound l ts) (λ p f. compared_sound go sound (length ts) p.0 l p.1 ts f.1 p.2 f.2 (Derives.term f.0 l p.1 f.1 p.0 f.3) f.4 (splits_shorter f.2)))
@@ -539,7 +538,7 @@ pull_sign connective.Or = omega arith
 pull_sign connective.And = omega arith
 
 -- no connective follows a binder or a LET
-bound_stops : (c : Connective) (us vs : Tokens) (t : Terminal) → pull_of us < reach (tighter c Bound) → us ≡ t ∷ vs → Is (sign c) t → ⊥
+pub bound_stops : (c : Connective) (us vs : Tokens) (t : Terminal) → pull_of us < reach (tighter c Bound) → us ≡ t ∷ vs → Is (sign c) t → ⊥
 bound_stops c us vs t lt e is =
     let here_is : pull_of us ≡ pull (sign c) = ap pull_of e ∙ ap pull is in
     omega (arith, subst (λ z. pull_of us < z) (reach_bound c) lt, here_is, pull_sign c)
@@ -592,12 +591,12 @@ joined_made c l ts p has Plain vs s d lt us a q g = (
 )
 joined_made c l ts p has Bound vs s d lt us a q g = absurd (bound_stops c p.2 us a.0 lt a.1 a.2)
 
-chain_on_sound : (go : Go) → Sound go → (c : Connective) (l : Nesting) (ts : Tokens) (r : Read Expr) → Yields r (Formed go.limit (λ e. tighter c e) l ts) → Yields (chain_on go c r) (ChainFront go.limit c l ts)
+pub chain_on_sound : (go : Go) → Sound go → (c : Connective) (l : Nesting) (ts : Tokens) (r : Read Expr) → Yields r (Formed go.limit (λ e. tighter c e) l ts) → Yields (chain_on go c r) (ChainFront go.limit c l ts)
 chain_on_sound go sound c l ts r f = bind f (λ p f. cases
     (λ us a. room go.limit p.1 (marked p.1) us _ (λ has. bind (sound.expr (start.Chain c) (marked p.1) us) (λ q g. here (joined_made c l ts p has f.0 f.1 f.2 f.3 f.4 us ((after_yields (sign c) p.2).holds us a) q g))))
     (λ a. here (f.0, f.1, f.2, Derives.alone c f.0 l p.1 f.1 p.0 f.3, alone_ends c f.0 p.2 a f.4)))
 
-between_sound : (go : Go) → Sound go → (c : Connective) (l : Nesting) (ts : Tokens) → Yields (between_with go c l ts) (Formed go.limit (λ e. tighter c e) l ts)
+pub between_sound : (go : Go) → Sound go → (c : Connective) (l : Nesting) (ts : Tokens) → Yields (between_with go c l ts) (Formed go.limit (λ e. tighter c e) l ts)
 between_sound go sound connective.And l ts = operand_sound go sound l ts
 between_sound go sound connective.Or l ts = chain_on_sound go sound connective.And l ts (operand_with go l ts) (operand_sound go sound l ts)
 between_sound go sound connective.Implies l ts =
@@ -649,19 +648,19 @@ fun_sound go sound l k t u ts vs bs rest us s is lt d e arrow =
     )))
 
 -- an identifier, and a type behind a colon, up to the bar
-record BaseFront (limit : Limit) (l : Nesting) (ts : Tokens) (p : Word × TypeExpr × Nesting × Tokens) : Type 0 where
-  t : Terminal
-  u : Terminal
-  w : Terminal
-  vs : Tokens
-  split : Splits ts (t ∷ u ∷ (vs ++ w ∷ [])) p.3
-  id : IsId t
-  colon : Is kind.Colon u
-  type : Derives limit type_ l vs p.1 p.2
-  bar : Is kind.Bar w
-  is : t.word ≡ p.0
+pub record BaseFront (limit : Limit) (l : Nesting) (ts : Tokens) (p : Word × TypeExpr × Nesting × Tokens) : Type 0 where
+  pub t : Terminal
+  pub u : Terminal
+  pub w : Terminal
+  pub vs : Tokens
+  pub split : Splits ts (t ∷ u ∷ (vs ++ w ∷ [])) p.3
+  pub id : IsId t
+  pub colon : Is kind.Colon u
+  pub type : Derives limit type_ l vs p.1 p.2
+  pub bar : Is kind.Bar w
+  pub is : t.word ≡ p.0
 
-base_sound : (go : Go) → Sound go → (l : Nesting) (ts : Tokens) → Yields (base_with go l ts) (BaseFront go.limit l ts)
+pub base_sound : (go : Go) → Sound go → (l : Nesting) (ts : Tokens) → Yields (base_with go l ts) (BaseFront go.limit l ts)
 base_sound go sound l ts =
     id_bind ts _ (λ t us e is. bind (expect_yields kind.Colon us) (λ vs a. bind (sound.type l vs) (λ q f. bind (expect_yields kind.Bar q.2) (λ ws b. here (record {
       t = t;

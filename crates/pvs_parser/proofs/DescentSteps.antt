@@ -107,7 +107,7 @@ begins_cases (t ∷ ts) f d {Q = Q} g h = begins_one_case t ts f d Q (λ p is. g
 
 -- ---- levels and numbers of entries
 
-below_is : (limit : Limit) (n : ℕ) → is_below limit n ≡ true → IsBelow limit n
+pub below_is : (limit : Limit) (n : ℕ) → is_below limit n ≡ true → IsBelow limit n
 below_is (Some most) n e = ltb-true n most e
 below_is None n e = search rules
 

@@ -1,5 +1,5 @@
 -- The first terminal of a form.
-use Rattle.std.proofs.Common.{◌≡◌, Bool, true, false, [], ◌∷◌, ◌++◌, refl, ap, Some}
+use Rattle.std.proofs.Common.{◌≡◌, true, false, [], ◌∷◌, ◌++◌, refl, ap, Some}
 use Rattle.pvs_parser.specs.declared.nesting.Nesting.{Nesting}
 use Rattle.pvs_parser.specs.declared.terminal.Terminal.{Terminal}
 use Rattle.pvs_parser.specs.declared.terminal.TerminalKind.{TerminalKind}
@@ -7,6 +7,7 @@ use Rattle.pvs_parser.specs.declared.terminal.TerminalKind.TheVariants as kind
 use Rattle.pvs_syntax.specs.declared.expression.BinderWord.{BinderWord}
 use Rattle.pvs_parser.specs.Terminals.{IsId, is_id}
 use Rattle.pvs_parser.specs.Language.{Limit, Tokens, Derives, Plain, Form, Item, Nonterminal, form, item, list, name, inst, type_, Tree, tighter, begins_type, binder_word}
+use Rattle.pvs_parser.specs.Descent.{starts_type}
 
 -- an identifier stands first
 abbrev pub IdFirst : Tokens → Type 0
@@ -16,15 +17,7 @@ IdFirst ts = (t : Terminal) × (us : Tokens) × (ts ≡ t ∷ us) × IsId t
 abbrev pub NoTypeFirst : Tokens → Type 0
 NoTypeFirst ts = (t : Terminal) × (us : Tokens) × (ts ≡ t ∷ us) × (begins_type t.kind ≡ false)
 
--- a terminal that may begin a type
-abbrev pub starts_type : TerminalKind → Bool
-starts_type kind.Id = true
-starts_type kind.Proof = true
-starts_type kind.Open = true
-starts_type kind.OpenBracket = true
-starts_type kind.OpenBrace = true
-starts_type _ = false
-
+-- a terminal that may begin a type stands first
 abbrev pub TypeFirst : Tokens → Type 0
 TypeFirst ts = (t : Terminal) × (us : Tokens) × (ts ≡ t ∷ us) × (starts_type t.kind ≡ true)
 

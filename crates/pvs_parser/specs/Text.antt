@@ -1,5 +1,5 @@
 -- Which unit a text is, and which expression a span of it.
-use Rattle.std.specs.Prelude.{◌≡◌, ◌≤◌, ◌^◌, ℕ, suc, ◌+◌, ◌-◌, ◌*◌, ◌==◌, nat_lt, Bool, true, false, if◌then◌else◌, List, [], ◌∷◌, length, map, take, drop, codes, slice_get, Option, Some, None, Result, Ok, Err, All, ⊤}
+use Rattle.std.specs.Prelude.{◌≡◌, ◌≤◌, ◌<◌, ◌^◌, ℕ, ◌+◌, ◌-◌, ◌==◌, nat_lt, Bool, true, false, if◌then◌else◌, List, [], ◌∷◌, length, map, take, drop, codes, slice_get, Option, Some, None, Result, Ok, Err, All, ⊤}
 use Rattle.std.specs.Str.{bytes_eq}
 use Rattle.pvs_base.specs.declared.code.Code.{Code}
 use Rattle.pvs_base.specs.declared.code.Code.TheVariants as code
@@ -23,10 +23,12 @@ use Rattle.pvs_parser.specs.declared.failure.Reason.TheVariants as reason
 use Rattle.pvs_parser.specs.declared.failure.Stop.{Stop}
 use Rattle.pvs_parser.specs.declared.failure.ParseFault.{ParseFault}
 use Rattle.pvs_parser.specs.declared.failure.ParseFault.TheVariants as parse_fault
+use Rattle.pvs_parser.specs.declared.nesting.Nesting.{Nesting}
 use Rattle.pvs_parser.specs.declared.terminal.Terminal.{Terminal}
 use Rattle.pvs_parser.specs.declared.terminal.TerminalKind.{TerminalKind}
 use Rattle.pvs_parser.specs.declared.terminal.TerminalKind.TheVariants as kind
-use Rattle.pvs_parser.specs.Language.{Tokens, bounded, ReadsExpr}
+use Rattle.pvs_parser.specs.Faults.{code_of, last_fault, BehindEnd, IsFirst}
+use Rattle.pvs_parser.specs.Language.{Tokens, Limit, bounded, ReadsExpr, Ending, Derives, whole, outermost}
 use Rattle.pvs_parser.specs.Units.{DerivesUnit}
 use Rattle.pvs_parser.specs.Descent.{Answer, expression}
 use Rattle.pvs_parser.specs.UnitDescent.{unit}
@@ -152,39 +154,6 @@ terminals quoted offset pos span = terminals_of quoted offset span (tokens_of po
 
 -- ---- Where reading stops, as a fault.
 
-abbrev pub kind_at : Option Terminal → Option TerminalKind
-kind_at None = None
-kind_at (Some t) = Some t.kind
-
--- whether the last kind and the one before it are those of a type that is declared nonempty
-abbrev pub behind_nonempty : Option TerminalKind → Option TerminalKind → Bool
-behind_nonempty (Some kind.Plus) (Some kind.Type) = true
-behind_nonempty (Some kind.NonemptyType) second = true
-behind_nonempty first second = false
-
--- the kind of the token that stands so far before the one of this number
-abbrev pub kind_before : Tokens → ℕ → ℕ → Option TerminalKind
-kind_before ts at back = if nat_lt at back then None else kind_at (slice_get ts (at - back))
-
--- whether a token of this kind with this number, where the grammar does not have it, is one of PVS that no form has there
-abbrev pub is_outside : Tokens → ℕ → TerminalKind → Bool
-is_outside ts at kind.OutOfProfile = true
-is_outside ts at kind.Plus = true
-is_outside ts at kind.Number = true
-is_outside ts at kind.Equal = behind_nonempty (kind_before ts at 1) (kind_before ts at 2)
-is_outside ts at k = false
-
--- the code of a token of this number where reading stops for this reason
-abbrev pub code_of : Tokens → ℕ → TerminalKind → Reason → Code
-code_of ts at k reason.TooNested = code.TooNested
-code_of ts at k reason.WrongEnd = code.WrongEnd
-code_of ts at k reason.Unexpected = if is_outside ts at k then code.OutOfProfile else code.Unexpected
-
--- the fault where no token is left: the lexical one, or that the text ends here
-abbrev pub last_fault : Pos → Option Fault → Fault
-last_fault end None = record { pos = end; code = code.Unexpected }
-last_fault end (Some f) = f
-
 abbrev pub fault_at : Pos → Option Fault → Tokens → ℕ → Reason → Option Terminal → Fault
 fault_at end fault ts at why None = last_fault end fault
 fault_at end fault ts at why (Some t) = record { pos = t.word.pos; code = code_of ts at t.kind why }
@@ -221,9 +190,14 @@ pub record Reads (text : List ℕ) (u : tree.Unit) : Type 0 where
   pub faultless : (terminals_of_text text).fault ≡ None
   pub derives : DerivesUnit bounded text (terminals_of_text text).tokens u
 
--- the first fault of a text
-pub record IsFirstFault (text : List ℕ) (f : Fault) : Type 0 where
-  pub stops : read_text text ≡ Err f
+-- tokens that are a unit of a text, within a limit
+abbrev pub IsUnit : List ℕ → Limit → Tokens → Type 0
+IsUnit text limit ts = (u : tree.Unit) × DerivesUnit limit text ts u
+
+-- the first fault of a text: that it is too long, or that of its tokens
+pub data IsFirstFault (text : List ℕ) : Fault → Type 0 where
+  too_long : 2 ^ 20 < length text → IsFirstFault text (record { pos = first_place; code = code.TextTooLong })
+  first : length text ≤ 2 ^ 20 → (f : Fault) → IsFirst (IsUnit text) BehindEnd (place_after first_place text) (terminals_of_text text).fault (terminals_of_text text).tokens f → IsFirstFault text f
 
 -- the unit of a text, or its first fault
 abbrev pub IsAnswer : List ℕ → Result tree.Unit Fault → Type 0
@@ -263,9 +237,18 @@ pub record ReadsSpan (text : List ℕ) (start end : ℕ) (pos : Pos) (x : Expr) 
   pub faultless : (terminals_of_span text start end pos).fault ≡ None
   pub reads : ReadsExpr (terminals_of_span text start end pos).tokens x
 
+-- tokens that are an expression, within a limit
+abbrev pub IsExpr : Limit → Tokens → Type 0
+IsExpr limit ts = (x : Expr) × (e : Ending) × (m : Nesting) × Derives limit (whole e) outermost ts x m
+
+-- the name of a theory stands nowhere in an expression
+abbrev pub Nowhere : Tokens → Type 0
+Nowhere before = ⊥
+
 -- the first fault of a span
-pub record IsFirstFaultOfSpan (text : List ℕ) (start end : ℕ) (pos : Pos) (f : Fault) : Type 0 where
-  pub stops : read_span text start end pos ≡ Err f
+abbrev pub IsFirstFaultOfSpan : List ℕ → ℕ → ℕ → Pos → Fault → Type 0
+IsFirstFaultOfSpan text start end pos f =
+    IsFirst IsExpr Nowhere (place_after pos (span_of text start end)) (terminals_of_span text start end pos).fault (terminals_of_span text start end pos).tokens f
 
 -- what is answered of a span, unless memory runs out
 abbrev pub AnswersSpan : List ℕ → ℕ → ℕ → Pos → Result Expr ParseFault → Type 0

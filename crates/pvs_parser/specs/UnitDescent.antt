@@ -1,5 +1,5 @@
 -- Reading units from left to right. Where the tokens do not go on as a unit, or nest too deep, reading stops.
-use Rattle.std.specs.Prelude.{◌≡◌, ℕ, zero, suc, ◌+◌, ◌==◌, Bool, true, false, bytes_eq, if◌then◌else◌, List, [], ◌∷◌, ◌++◌, length, map, Option, Some, None, Result, Ok, Err}
+use Rattle.std.specs.Prelude.{ℕ, zero, suc, ◌+◌, Bool, true, false, bytes_eq, if◌then◌else◌, List, [], ◌∷◌, ◌++◌, length, map, Option, Some, None, Ok, Err}
 use Rattle.pvs_parser.specs.declared.failure.Reason.TheVariants as reason
 use Rattle.pvs_parser.specs.declared.nesting.Nesting.{Nesting}
 use Rattle.pvs_parser.specs.declared.terminal.Terminal.{Terminal}
@@ -22,7 +22,7 @@ use Rattle.pvs_syntax.specs.declared.unit.Proof.{Proof}
 use Rattle.pvs_syntax.specs.declared.unit.Theory.{Theory}
 use Rattle.pvs_syntax.specs.declared.unit.Unit as tree
 use Rattle.pvs_parser.specs.Terminals.{is_id}
-use Rattle.pvs_parser.specs.Language.{Limit, Item as ListItem, Parameter, Variable, Tokens, instance, outermost, inside}
+use Rattle.pvs_parser.specs.Language.{Limit, Parameter, Variable, Tokens, instance, outermost, inside}
 use Rattle.pvs_parser.specs.Units.{type_formal, const_formal, type_decl, var_decl, const_decl, formula_of, spelling}
 use Rattle.pvs_parser.specs.Descent.{Answer, ◌>>=◌, either, Read, stop, too_deep, after, expect, id, is_below, enter, Go, deeper, crowded, list_from, entries, framed_with, reader}
 

@@ -2,6 +2,7 @@
 
 ghost use Rattle.std.specs.Prelude.{◌≡◌};
 ghost use Rattle.pvs_parser.specs.declared.failure.Failure.TheVariants.{Memory};
+ghost use Rattle.pvs_parser.specs.declared.failure.ParseFault.TheVariants as parse_fault;
 
 use pvs_base::Fault;
 use std::alloc::{AllocError, AllocFailed};
@@ -59,4 +60,12 @@ pub enum ParseFault {
 
     /// Memory ran out.
     Memory,
+}
+
+impl From<AllocError> for ParseFault {
+    ghost from_gives = { λ _ e. e ≡ parse_fault.Memory };
+
+    fn from(_: AllocError) -> ParseFault {
+        ParseFault::Memory
+    }
 }

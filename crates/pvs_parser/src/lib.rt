@@ -2,27 +2,36 @@
 #![tactic(auto)]
 
 mod branches;
+mod declarations;
 mod descent;
 mod failure;
+mod fault;
+mod formals;
 mod grammar;
+mod importings;
 mod items;
 mod lists;
 mod names;
 mod nesting;
 mod operands;
+mod parse;
 mod prefixes;
+mod proofs;
 mod start;
 mod tables;
 mod terminal;
 mod terms;
+mod text;
+mod theories;
 mod tokens;
 mod trees;
 mod types;
+mod units;
 
-pub use descent::expression;
 pub use failure::{Failure, ParseFault, Reason, Stop};
 pub use grammar::one_expression;
 pub use nesting::Nesting;
+pub use parse::{one_answer, parse_expr, parse_unit};
 pub use start::Start;
 pub use terminal::{Connective, Prefix, Terminal, TerminalKind};
 

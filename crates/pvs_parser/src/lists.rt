@@ -22,7 +22,7 @@ use std::alloc::Global;
 
 /// Why reading stops behind the most items that a list may have. Where one more may begin, as
 /// `is_start` says, that is one too many.
-fn crowded(is_start: bool, tokens: &[Terminal]) -> Failure
+pub fn crowded(is_start: bool, tokens: &[Terminal]) -> Failure
     ensures { result ≡ Failure.At (crowded_at is_start tokens.now) }
 {
     if is_start {

@@ -1,0 +1,103 @@
+//! The calls of this crate: the unit of a text, and the expression of a span of one.
+
+ghost use Rattle.std.specs.Prelude.{◌≡◌, ◌≤◌, ◌^◌, ℕ, List, Result, length, IfOk};
+ghost use Rattle.pvs_base.specs.declared.code.Fault as fault;
+ghost use Rattle.pvs_syntax.specs.declared.unit.Unit as tree;
+ghost use Rattle.pvs_parser.specs.Returns.{Returns};
+ghost use Rattle.pvs_parser.specs.Text.{IsAnswer, Answers, AnswersSpan, SpansIn};
+ghost use Rattle.pvs_parser.specs.Text as spec;
+
+use crate::descent::expression;
+use crate::failure::ParseFault;
+use crate::fault::parse_fault;
+use crate::text::terminals;
+use crate::units::unit;
+use pvs_base::{Code, Fault, MAX_TEXT, Pos};
+use pvs_syntax::{Expr, Unit};
+use std::alloc::Global;
+
+fn read_text(alloc: Global, text: &[u8]) -> Result<Unit, ParseFault>
+    ensures { Returns result (spec.read_text text.now) }
+{
+    if text.len() > MAX_TEXT {
+        return Err(ParseFault::At(Fault {
+            pos: Pos::FIRST,
+            code: Code::TextTooLong,
+        }));
+    }
+    let (tokens, lexical) = terminals(alloc, false, 0, Pos::FIRST, text)?;
+    match (unit(alloc, text, &tokens), lexical) {
+        (Ok(unit), None) => Ok(unit),
+        (Ok(_), Some(fault)) => Err(ParseFault::At(fault)),
+        (Err(failure), _) => Err(parse_fault(text, Pos::FIRST, lexical, &tokens, failure)),
+    }
+}
+
+fn read_span(alloc: Global, text: &[u8], start: u32, end: u32, pos: Pos) -> Result<Expr, ParseFault>
+    requires order { start ≤ end }
+    requires within { end ≤ length text.now }
+    requires size { length text.now ≤ 2 ^ 20 }
+    requires line { pos.line ≤ 2 ^ 30 }
+    requires col { pos.col ≤ 2 ^ 30 }
+    ensures { Returns result (spec.read_span text.now start end pos) }
+{
+    let span = pvs_lexer::spelling(text, start, end);
+    let (tokens, lexical) = terminals(alloc, true, start, pos, span)?;
+    match (expression(alloc, &tokens), lexical) {
+        (Ok(expr), None) => Ok(expr),
+        (Ok(_), Some(fault)) => Err(ParseFault::At(fault)),
+        (Err(failure), _) => Err(parse_fault(span, pos, lexical, &tokens, failure)),
+    }
+}
+
+/// The unit of a text: its theories and proofs, in order.
+///
+/// Otherwise the first fault, with its place; lines and columns count from 1, and columns are
+/// bytes:
+///
+/// - TextTooLong, at line 1, column 1, for a text of more than 2^20 bytes;
+/// - BadByte and UnclosedQuote, at the byte, where the tokens before it begin a unit;
+/// - Unexpected, at the first token with which the tokens so far begin no unit, or at the place after
+///   the last byte where the tokens begin one and are none;
+/// - OutOfProfile in place of Unexpected, where that token is a number, `+`, `-`, a quoted text,
+///   another word or symbol of PVS outside the grammar, or the `=` behind `TYPE+` or NONEMPTY_TYPE;
+/// - TooNested, at the token that opens level 201, or at the first token of the 201st entry of a
+///   list;
+/// - WrongEnd, at an identifier behind END that is not the name of the theory.
+///
+/// Memory is for want of memory alone.
+pub fn parse_unit(alloc: Global, text: &[u8]) -> Result<Unit, ParseFault>
+    ensures answer { Answers text.now result }
+    // The script of each proof lies in the text.
+    ensures spans { IfOk result (λ u. SpansIn text.now u) }
+{
+    read_text(alloc, text)
+}
+
+/// The expression of the bytes of a text from `start` up to `end`, the first of which has the place
+/// `pos`. The variables of a sequent, as `v!1`, are identifiers in it.
+///
+/// Otherwise the first fault: BadByte, UnclosedQuote, Unexpected, OutOfProfile or TooNested, each
+/// where `parse_unit` has it, with an expression in place of a unit. The place after the last byte
+/// is that after the span. Memory is for want of memory alone.
+pub fn parse_expr(
+    alloc: Global,
+    text: &[u8],
+    start: u32,
+    end: u32,
+    pos: Pos,
+) -> Result<Expr, ParseFault>
+    requires order { start ≤ end }
+    requires within { end ≤ length text.now }
+    requires size { length text.now ≤ 2 ^ 20 }
+    requires line { pos.line ≤ 2 ^ 30 }
+    requires col { pos.col ≤ 2 ^ 30 }
+    ensures answer { AnswersSpan text.now start end pos result }
+{
+    read_span(alloc, text, start, end, pos)
+}
+
+/// A text has one unit or one first fault.
+pub fn one_answer()
+    ensures { (text : List ℕ) (a b : Result tree.Unit fault.Fault) → IsAnswer text a → IsAnswer text b → a ≡ b }
+{}

@@ -1,0 +1,92 @@
+//! Theories.
+
+ghost use Rattle.std.specs.Prelude.{◌≡◌, bytes_eq};
+ghost use Rattle.pvs_parser.specs.Descent.{Gives};
+ghost use Rattle.pvs_parser.specs.Language.{bounded};
+ghost use Rattle.pvs_parser.specs.Units.{spelling};
+ghost use Rattle.pvs_parser.specs.UnitDescent as spec;
+
+use crate::declarations::{Decls, Part, declarations};
+use crate::failure::{Failure, Reason, Stop};
+use crate::formals::formal_part;
+use crate::terminal::{Terminal, TerminalKind};
+use crate::tokens::{after, expect, id};
+use pvs_syntax::{Formal, Theory, Word};
+use sqlite_items::Items;
+use std::alloc::Global;
+
+/// The assuming part of a theory, if it has one.
+fn assuming_part(alloc: Global, tokens: &[Terminal]) -> Decls<'_>
+    ensures { Gives (λ p. (p.0, p.1.now)) result (spec.assuming_part bounded tokens.now) }
+{
+    let Some(rest) = after(TerminalKind::Assuming, tokens) else {
+        return Ok((Items::new(alloc), tokens));
+    };
+    let (assuming, rest) = declarations(alloc, Part::Assuming, rest)?;
+    let rest = expect(TerminalKind::EndAssuming, rest)?;
+    Ok((assuming, rest))
+}
+
+/// The name and the formals of a theory, and the tokens behind BEGIN.
+fn heading(
+    alloc: Global,
+    tokens: &[Terminal],
+) -> Result<(Word, Items<Formal>, &[Terminal]), Failure>
+    ensures { Gives (λ p. (p.0, p.1, p.2.now)) result (spec.heading bounded tokens.now) }
+{
+    let (name, rest) = id(tokens)?;
+    let (formals, rest) = formal_part(alloc, rest)?;
+    let rest = expect(TerminalKind::Colon, rest)?;
+    let rest = expect(TerminalKind::Theory, rest)?;
+    let rest = expect(TerminalKind::Begin, rest)?;
+    Ok((name, formals, rest))
+}
+
+/// Whether two words of a text have the same bytes.
+fn same_spelling(text: &[u8], a: Word, b: Word) -> bool
+    ensures { result ≡ bytes_eq (spelling text.now a) (spelling text.now b) }
+{
+    pvs_lexer::spelling(text, a.start, a.end) == pvs_lexer::spelling(text, b.start, b.end)
+}
+
+/// END and the name of the theory, and the tokens after them.
+fn ending<'a>(
+    text: &[u8],
+    name: Word,
+    tokens: &'a [Terminal],
+) -> Result<(Word, &'a [Terminal]), Failure>
+    ensures { Gives (λ p. (p.0, p.1.now)) result (spec.ending text.now name tokens.now) }
+{
+    let rest = expect(TerminalKind::End, tokens)?;
+    let (end, rest) = id(rest)?;
+    if same_spelling(text, name, end) {
+        Ok((end, rest))
+    } else {
+        Err(Failure::At(Stop {
+            left: rest.len() + 1,
+            reason: Reason::WrongEnd,
+        }))
+    }
+}
+
+/// A theory of a text, and the tokens after it.
+pub fn theory<'a>(
+    alloc: Global,
+    text: &[u8],
+    tokens: &'a [Terminal],
+) -> Result<(Theory, &'a [Terminal]), Failure>
+    ensures { Gives (λ p. (p.0, p.1.now)) result (spec.theory bounded text.now tokens.now) }
+{
+    let (name, formals, rest) = heading(alloc, tokens)?;
+    let (assuming, rest) = assuming_part(alloc, rest)?;
+    let (decls, rest) = declarations(alloc, Part::Body, rest)?;
+    let (end, rest) = ending(text, name, rest)?;
+    let theory = Theory {
+        name,
+        formals,
+        assuming,
+        decls,
+        end: end.end,
+    };
+    Ok((theory, rest))
+}

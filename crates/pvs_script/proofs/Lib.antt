@@ -1,0 +1,10 @@
+pub mod Decimal
+pub mod Stacks
+pub mod Turns
+pub mod Runs
+pub mod Taken
+pub mod Meant
+pub mod Levels
+pub mod Fronts
+pub mod Verdicts
+pub mod CallerLemmas

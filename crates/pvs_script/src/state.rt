@@ -1,0 +1,46 @@
+//! What is read of a script so far.
+
+use crate::tree::{Script, Step};
+use pvs_base::Pos;
+use sqlite_items::Items;
+
+/// A script as far as its first tokens say.
+#[derive(Drop)]
+pub enum State {
+    /// There are no tokens yet.
+    Start,
+    /// Trees are open.
+    Inside(Nest),
+    /// The tokens are a script.
+    Whole(Script),
+}
+
+/// Trees that are open, each inside the one before it.
+#[derive(Drop)]
+pub struct Nest {
+    /// All but the innermost one.
+    pub outer: Items<OpenTree>,
+    pub tree: OpenTree,
+    pub part: Part,
+}
+
+/// A tree whose closing parenthesis is still to come: its steps and its trees so far.
+#[derive(Drop)]
+pub struct OpenTree {
+    pub steps: Items<Step>,
+    pub trees: Items<Script>,
+}
+
+/// What stands behind the last whole part of the innermost tree.
+#[derive(Clone, Copy)]
+pub enum Part {
+    Nothing,
+    /// A parenthesis at this place.
+    Opened(Pos),
+    /// A parenthesis at this place, and `if`.
+    If(Pos),
+    /// A parenthesis at this place, `if` and a minus sign.
+    Minus(Pos),
+    /// A step without its closing parenthesis.
+    Step(Step),
+}
