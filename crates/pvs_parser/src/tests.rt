@@ -1,6 +1,7 @@
 //! Small expressions with their trees, and where reading stops.
 
-use crate::{Failure, Reason, Terminal, TerminalKind, expression};
+use crate::descent::expression;
+use crate::{Failure, Reason, Terminal, TerminalKind};
 use pvs_base::Pos;
 use pvs_syntax::{Actual, BinderWord, Binding, Expr, InfixWord, LetPart, NameExpr, TypeExpr, Word};
 use std::alloc::{AllocError, Global};
