@@ -34,3 +34,6 @@ pub use nesting::Nesting;
 pub use parse::{one_answer, parse_expr, parse_unit};
 pub use start::Start;
 pub use terminal::{Connective, Prefix, Terminal, TerminalKind};
+
+#[cfg(test)]
+mod tests;
