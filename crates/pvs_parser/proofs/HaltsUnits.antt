@@ -21,7 +21,8 @@ use Rattle.pvs_parser.proofs.HaltsBegins.{extend}
 use Rattle.pvs_parser.proofs.HaltsUnitsWiden.{widen_theory, widen_proof}
 use Rattle.pvs_parser.proofs.HaltsUnitsEnds.{is_end, last_is_end, last_of}
 use Rattle.pvs_parser.proofs.HaltsUnitsParts.{Starts, started}
-use Rattle.pvs_parser.proofs.HaltsUnitsSteps.{BehindEnd, TextWhy, TextHalts, text_into}
+use Rattle.pvs_parser.specs.Faults.{BehindEnd}
+use Rattle.pvs_parser.proofs.HaltsUnitsSteps.{TextWhy, TextHalts, text_into}
 use Rattle.pvs_parser.proofs.HaltsUnitsTheories.{TheoryBegun, theory_stops}
 use Rattle.pvs_parser.proofs.HaltsUnitsProofs.{ProofBegun, proof_stops}
 

@@ -9,13 +9,10 @@ use Rattle.pvs_syntax.specs.declared.word.Word.{Word}
 use Rattle.pvs_parser.specs.Terminals.{Is, IsId, is_id}
 use Rattle.pvs_parser.specs.Language.{Limit, Tokens}
 use Rattle.pvs_parser.specs.Descent.{Answer, ◌>>=◌, stop, id}
+use Rattle.pvs_parser.specs.Faults.{BehindEnd}
 use Rattle.pvs_parser.proofs.DescentSteps.{Splits}
 use Rattle.pvs_parser.proofs.Halts.{Stops, stopped, weaken, at, deep, Wider, no_limit, same_limit, Full, NoComma, Why, Halts, Place, upto, within_inner}
 use Rattle.pvs_parser.proofs.HaltsUnitsEnds.{NoEnd, last_is_end, last_of, last_plain, last_any}
-
--- the tokens end in END
-abbrev pub BehindEnd : Tokens → Type 0
-BehindEnd before = (front : Tokens) × (end : Terminal) × (before ≡ front ++ end ∷ []) × Is kind.End end
 
 -- An identifier is unexpected only behind a token that is not END. A wrong end is an identifier behind END.
 abbrev pub TextWhy : (Limit → Tokens → Type 0) → Tokens → Tokens → Reason → Type 0

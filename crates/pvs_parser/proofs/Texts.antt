@@ -7,14 +7,14 @@ use Rattle.pvs_base.specs.declared.place.Pos.{Pos}
 use Rattle.pvs_base.specs.Place.{place_after}
 use Rattle.pvs_syntax.specs.declared.expression.Expr.{Expr}
 use Rattle.pvs_syntax.specs.declared.unit.Unit as tree
-use Rattle.pvs_parser.specs.Language.{Tokens, IsBelow, bounded}
+use Rattle.pvs_parser.specs.Language.{IsBelow, bounded}
 use Rattle.pvs_parser.specs.Descent.{Answer, expression}
 use Rattle.pvs_parser.specs.UnitDescent.{unit}
 use Rattle.pvs_parser.specs.Faults.{BehindEnd}
 use Rattle.pvs_parser.specs.Text.{Terminals, unless_fault, judged, first_place, terminals_of_text, read_text, Reads, IsUnit, IsFirstFault, IsAnswer, span_of, terminals_of_span, read_span, IsExpr, Nowhere, ReadsSpan, IsFirstFaultOfSpan}
 use Rattle.pvs_parser.proofs.FirstFault.{one_first, no_first, first_fault}
 use Rattle.pvs_parser.proofs.ExprFault.{expr_reading}
-use Rattle.pvs_parser.proofs.UnitFault.{unit_reading, Halting}
+use Rattle.pvs_parser.proofs.UnitFault.{unit_reading}
 use Rattle.pvs_parser.proofs.OneExpression.{expression_sound, expression_complete}
 use Rattle.pvs_parser.proofs.WholeUnits.{unit_sound, unit_complete}
 
@@ -85,19 +85,19 @@ one_answer text (Err f) (Err g) r s = ap (λ z. Err z) (fault_same text f g r s)
 err_same : (o : Result tree.Unit Fault) (f g : Fault) → o ≡ Err f → o ≡ Err g → f ≡ g
 err_same o f g e h = cc
 
-fault_of_text : (text : List ℕ) → ((ts : Tokens) → IsUnit text bounded ts → IsUnit text None ts) → Halting text → (f : Fault) (b : Bool) → nat_lt (2 ^ 20) (length text) ≡ b
+fault_of_text : (text : List ℕ) (f : Fault) (b : Bool) → nat_lt (2 ^ 20) (length text) ≡ b
     → (if b then Err (record { pos = first_place; code = code.TextTooLong }) else judged (place_after first_place text) (terminals_of_text text) (unit bounded text (terminals_of_text text).tokens)) ≡ Err f → IsFirstFault text f
-fault_of_text text w h f true is e = subst (λ z. IsFirstFault text z) (err_same (Err (record { pos = first_place; code = code.TextTooLong })) (record { pos = first_place; code = code.TextTooLong }) f refl e) (IsFirstFault.too_long (ltb-true (2 ^ 20) (length text) is))
-fault_of_text text w h f false is e =
-    IsFirstFault.first (ltb-false (2 ^ 20) (length text) is) f (first_fault (IsUnit text) BehindEnd (λ limit ts. unit limit text ts) (unit_reading text w h) (place_after first_place text) (terminals_of_text text) f e)
+fault_of_text text f true is e = subst (λ z. IsFirstFault text z) (err_same (Err (record { pos = first_place; code = code.TextTooLong })) (record { pos = first_place; code = code.TextTooLong }) f refl e) (IsFirstFault.too_long (ltb-true (2 ^ 20) (length text) is))
+fault_of_text text f false is e =
+    IsFirstFault.first (ltb-false (2 ^ 20) (length text) is) f (first_fault (IsUnit text) BehindEnd (λ limit ts. unit limit text ts) (unit_reading text) (place_after first_place text) (terminals_of_text text) f e)
 
 -- what is read of a text is its answer
-answer_of : (text : List ℕ) → ((ts : Tokens) → IsUnit text bounded ts → IsUnit text None ts) → Halting text → (a : Result tree.Unit Fault) → read_text text ≡ a → IsAnswer text a
-answer_of text w h (Ok u) e = text_sound text u e
-answer_of text w h (Err f) e = fault_of_text text w h f (nat_lt (2 ^ 20) (length text)) refl e
+answer_of : (text : List ℕ) (a : Result tree.Unit Fault) → read_text text ≡ a → IsAnswer text a
+answer_of text (Ok u) e = text_sound text u e
+answer_of text (Err f) e = fault_of_text text f (nat_lt (2 ^ 20) (length text)) refl e
 
-pub text_answer : (text : List ℕ) → ((ts : Tokens) → IsUnit text bounded ts → IsUnit text None ts) → Halting text → IsAnswer text (read_text text)
-text_answer text w h = answer_of text w h (read_text text) refl
+pub text_answer : (text : List ℕ) → IsAnswer text (read_text text)
+text_answer text = answer_of text (read_text text) refl
 
 -- ---- spans
 
