@@ -17,10 +17,14 @@ mod operands;
 mod parse;
 mod prefixes;
 mod proofs;
+#[cfg(test)]
+mod shown;
 mod start;
 mod tables;
 mod terminal;
 mod terms;
+#[cfg(test)]
+mod tests;
 mod text;
 mod theories;
 mod tokens;

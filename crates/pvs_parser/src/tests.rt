@@ -1,384 +1,639 @@
-//! Small expressions with their trees, and where reading stops.
+//! Texts with their trees, written out by hand, and texts with their first faults.
+//!
+//! In the tables a text stands before `~>`, and behind it its tree, in which each form has its own
+//! parentheses, or its first fault.
 
-use crate::descent::expression;
-use crate::{Failure, Reason, Terminal, TerminalKind};
-use pvs_base::Pos;
-use pvs_syntax::{Actual, BinderWord, Binding, Expr, InfixWord, LetPart, NameExpr, TypeExpr, Word};
+ghost use Rattle.std.specs.Prelude.{◌≤◌, ◌^◌, length};
+
+use crate::shown::{self, Style};
+use crate::{ParseFault, parse_expr, parse_unit};
+use pvs_base::{Fault, MAX_TEXT, Pos, code_name};
+use pvs_syntax::{Expr, Item, Unit};
 use std::alloc::{AllocError, Global};
 use std::test::Fail;
 
-/// The terminal that a word is. A word that is none here is an identifier.
-fn kind(word: &str) -> TerminalKind {
-    match word {
-        "1" => TerminalKind::Number,
-        "AND" => TerminalKind::And,
-        "ELSE" => TerminalKind::Else,
-        "ELSIF" => TerminalKind::Elsif,
-        "ENDIF" => TerminalKind::EndIf,
-        "EXISTS" => TerminalKind::Exists,
-        "FORALL" => TerminalKind::Forall,
-        "IF" => TerminalKind::If,
-        "IFF" => TerminalKind::Iff,
-        "IMPLIES" => TerminalKind::Implies,
-        "IN" => TerminalKind::In,
-        "LAMBDA" => TerminalKind::Lambda,
-        "LET" => TerminalKind::Let,
-        "NOT" => TerminalKind::Not,
-        "OR" => TerminalKind::Or,
-        "THEN" => TerminalKind::Then,
-        "TRUE" => TerminalKind::True,
-        "(" => TerminalKind::Open,
-        ")" => TerminalKind::Close,
-        "[" => TerminalKind::OpenBracket,
-        "]" => TerminalKind::CloseBracket,
-        "{" => TerminalKind::OpenBrace,
-        "}" => TerminalKind::CloseBrace,
-        "," => TerminalKind::Comma,
-        ":" => TerminalKind::Colon,
-        "." => TerminalKind::Dot,
-        "|" => TerminalKind::Bar,
-        "=" => TerminalKind::Equal,
-        "/=" => TerminalKind::Differs,
-        "->" => TerminalKind::Arrow,
-        "`" => TerminalKind::Backquote,
-        _ => TerminalKind::Id,
-    }
+/// Terms and operators, each pair of them.
+const TERMS: &str = "\
+TRUE ~> (T)
+false ~> (F)
+x ~> x
+proof ~> proof
+th.x ~> th.x
+th[a].x ~> th[a].x
+proof.proof ~> proof.proof
+th[[a -> b], {x: t | p}, (c), d].y(z) ~> (th[type (-> :a b)][type (sub x:t p)][(paren c)][d].y z)
+(a) ~> (paren a)
+(a, b) ~> (, a b)
+f(a, b) ~> (f a b)
+f(a)(b) ~> ((f a) b)
+x`1`22 ~> (`22 (`1 x))
+f(a)`1 ~> (`1 (f a))
+x`1(a)`2 ~> (`2 ((`1 x) a))
+(a, b)`2 ~> (`2 (, a b))
+(f)(a) ~> ((paren f) a)
+IF a THEN b ELSE c ENDIF(x) ~> ((if a b c) x)
+IF a THEN b ELSIF c THEN d ELSE e ENDIF ~> (if a b (if c d e))
+v!1(s!2) ~> (v!1 s!2)
+a AND b AND c ~> (& a (& b c))
+a OR b OR c ~> (| a (| b c))
+a IMPLIES b IMPLIES c ~> (=> a (=> b c))
+a IFF b IFF c ~> (<=> a (<=> b c))
+a = b = c ~> (= (= a b) c)
+a /= b = c ~> (= (/= a b) c)
+a AND b OR c ~> (| (& a b) c)
+a OR b AND c ~> (| a (& b c))
+a AND b => c ~> (=> (& a b) c)
+a => b AND c ~> (=> a (& b c))
+a AND b <=> c ~> (<=> (& a b) c)
+a <=> b AND c ~> (<=> a (& b c))
+a OR b => c ~> (=> (| a b) c)
+a => b OR c ~> (=> a (| b c))
+a OR b <=> c ~> (<=> (| a b) c)
+a <=> b OR c ~> (<=> a (| b c))
+a => b <=> c ~> (<=> (=> a b) c)
+a <=> b => c ~> (<=> a (=> b c))
+a = b AND c ~> (& (= a b) c)
+a AND b = c ~> (& a (= b c))
+a /= b <=> c ~> (<=> (/= a b) c)
+a <=> b /= c ~> (<=> a (/= b c))
+a & b /\\ c \\/ d ~> (| (& a (& b c)) d)
+NOT a = b ~> (~ (= a b))
+NOT a AND b ~> (& (~ a) b)
+NOT NOT a ~> (~ (~ a))
+";
+
+/// Binders, LET, and types.
+const BINDERS: &str = "\
+FORALL x: a AND b ~> (all x (& a b))
+a AND FORALL x: b OR c ~> (& a (all x (| b c)))
+a OR LET x = b IN c => d ~> (| a (let x=b (=> c d)))
+NOT EXISTS x, y: p ~> (~ (some x y p))
+a = LAMBDA x: b IFF c ~> (= a (fun x (<=> b c)))
+FORALL (x: t, y, z: [a -> b]): p ~> (all x:t y z:(-> :a b) p)
+LAMBDA (x): x ~> (fun x x)
+LET x = a = b, y: [t, u] = c IN x ~> (let x=(= a b) y:(* :t :u)=c x)
+EXISTS (x: [y: a, b -> [c, d, z: e]]): p ~> (some x:(-> y:a :b (* :c :d z:e)) p)
+EXISTS (x: {y: (q) | r}, z: th[a].t): p ~> (some x:(sub y:(pred q) r) z:th[a].t p)
+";
+
+/// The column of a form's first token stands behind `@`.
+const PLACES: &str = "\
+NOT x = TRUE ~> (~@1 (= x (T@9)))
+(x)((y, FALSE)) ~> ((paren@1 x) (,@5 y (F@9)))
+IF x THEN y ELSIF z THEN w ELSE v ENDIF ~> (if@1 x y (if@13 z w v))
+x OR EXISTS (y: (p)): LAMBDA z: w ~> (| x (some@6 y:(pred@17 p) (fun@23 z w)))
+LET x: [a, {b: c | d}] = y IN x ~> (let@1 x:(*@8 :a :(sub@12 b:c d))=y x)
+f(t[[a -> b]].x) ~> (f t[type (->@5 :a b)].x)
+";
+
+/// Neighbours of expressions.
+const FAULTS: &str = "\
+\x20~> Unexpected@1:1
+a AND ~> Unexpected@1:6
+a b ~> Unexpected@1:3
+() ~> Unexpected@1:2
+(a,) ~> Unexpected@1:4
+(a ~> Unexpected@1:3
+f(a,, b) ~> Unexpected@1:5
+a = = b ~> Unexpected@1:5
+th[a] ~> Unexpected@1:6
+th[].x ~> Unexpected@1:4
+th[a b].x ~> Unexpected@1:6
+th.1 ~> OutOfProfile@1:4
+x`y ~> Unexpected@1:3
+x` ~> Unexpected@1:3
+IF a THEN b ENDIF ~> Unexpected@1:13
+IF a ELSE b ENDIF ~> Unexpected@1:6
+NOT ~> Unexpected@1:4
+FORALL : p ~> Unexpected@1:8
+FORALL (): p ~> Unexpected@1:9
+FORALL (x, ): p ~> Unexpected@1:12
+FORALL x, : p ~> Unexpected@1:11
+FORALL x: t: p ~> Unexpected@1:12
+FORALL (x: [a]): p ~> Unexpected@1:14
+FORALL (x: {y | p}): q ~> Unexpected@1:15
+FORALL (x: {y: t}): q ~> Unexpected@1:17
+LET x a IN b ~> Unexpected@1:7
+LET x = a, IN b ~> Unexpected@1:12
+LET x = a ~> Unexpected@1:10
+a + b ~> OutOfProfile@1:3
+a < b ~> OutOfProfile@1:3
+a - b ~> OutOfProfile@1:3
+1 ~> OutOfProfile@1:1
+f(1) ~> OutOfProfile@1:3
+\"s\" ~> OutOfProfile@1:1
+CASES x ~> OutOfProfile@1:1
+a XOR b ~> OutOfProfile@1:3
+a # b ~> BadByte@1:3
+a b # ~> Unexpected@1:3
+(a # ~> BadByte@1:4
+a \"b ~> UnclosedQuote@1:3
+";
+
+/// Declarations, and neighbours of them.
+const DECLARATIONS: &str = "\
+IMPORTING a ~> (importing a)
+IMPORTING a[b], c ~> (importing a[b])(importing c)
+IMPORTING ~> Unexpected@3:1
+IMPORTING a, ~> Unexpected@3:1
+IMPORTING a[ ~> Unexpected@3:1
+IMPORTING a.b ~> Unexpected@2:12
+T: TYPE ~> (type T)
+T, U: TYPE+ ~> (type+ T)(type+ U)
+T, U: NONEMPTY_TYPE ~> (type+ T)(type+ U)
+T: TYPE = [U -> V] ~> (type T = (-> :U V))
+T, U: TYPE = V ~> Unexpected@2:12
+T: TYPE = ~> Unexpected@3:1
+T: TYPE+ = U ~> OutOfProfile@2:10
+T: NONEMPTY_TYPE = U ~> OutOfProfile@2:18
+T: NONEMPTY_TYPE+ ~> OutOfProfile@2:17
+x, y: VAR T ~> (var x T)(var y T)
+x: VAR ~> Unexpected@3:1
+x: VAR TYPE ~> Unexpected@2:8
+c: T ~> (const c: T)
+c, d: [a, b] ~> (const c: (* :a :b))(const d: (* :a :b))
+c: T = e ~> (const c: T = e)
+c, d: T = e ~> Unexpected@2:9
+f(x: T, y): U = g(x) ~> (const f x:T y: U = (g x))
+f(x): U ~> (const f x: U)
+f(x)(y): U ~> Unexpected@2:5
+f(): U ~> Unexpected@2:3
+f, g(x): U ~> Unexpected@2:5
+f(x) TYPE ~> Unexpected@2:6
+f(x): TYPE ~> Unexpected@2:7
+a: AXIOM p ~> (axiom a p)
+a: POSTULATE p; b: THEOREM q ~> (axiom a p)(lemma b q)
+a: CHALLENGE p b: CLAIM p c: CONJECTURE p d: COROLLARY p e: FACT p f: FORMULA p ~> (lemma a p)(lemma b p)(lemma c p)(lemma d p)(lemma e p)(lemma f p)
+g: LAW p h: LEMMA p i: OBLIGATION p j: PROPOSITION p k: SUBLEMMA p l: theorem p ~> (lemma g p)(lemma h p)(lemma i p)(lemma j p)(lemma k p)(lemma l p)
+a, b: LEMMA p ~> Unexpected@2:7
+a: ASSUMPTION p ~> Unexpected@2:4
+a: LEMMA ~> Unexpected@3:1
+; T: TYPE ~> Unexpected@2:1
+T: TYPE; U: TYPE; ~> (type T)(type U)
+T: TYPE;; U: TYPE ~> Unexpected@2:9
+x y: T ~> Unexpected@2:3
+x,: T ~> Unexpected@2:3
+x: T y ~> Unexpected@3:1
+c: T = 1 ~> OutOfProfile@2:8
+c: T = v!1 ~> Unexpected@2:8
+LET: TYPE ~> Unexpected@2:1
+proof: TYPE ~> (type proof)
+x: DATATYPE ~> OutOfProfile@2:4
+";
+
+/// Theories, and neighbours of them.
+const THEORIES: &str = "\
+\x20~> 
+% nothing ~> 
+t: THEORY BEGIN END t ~> (theory t [] )
+t: THEORY BEGIN END t u: theory begin T: TYPE end u ~> (theory t [] )(theory u [] (type T))
+t[T: TYPE, U, V: TYPE+, W: NONEMPTY_TYPE, c, d: [T]]: THEORY BEGIN END t ~> Unexpected@1:51
+t[T: TYPE, U, V: TYPE+, W: NONEMPTY_TYPE, c, d: (T)]: THEORY BEGIN END t ~> (theory t(type T)(type+ U)(type+ V)(type+ W)(const c (pred T))(const d (pred T)) [] )
+t[]: THEORY BEGIN END t ~> Unexpected@1:3
+t[T: TYPE,]: THEORY BEGIN END t ~> Unexpected@1:11
+t[T: TYPE = U]: THEORY BEGIN END t ~> Unexpected@1:11
+t[T: TYPE+ = U]: THEORY BEGIN END t ~> OutOfProfile@1:12
+t[c T]: THEORY BEGIN END t ~> Unexpected@1:5
+t[c: ]: THEORY BEGIN END t ~> Unexpected@1:6
+t: THEORY END t ~> Unexpected@1:11
+t THEORY BEGIN END t ~> Unexpected@1:3
+t: BEGIN END t ~> Unexpected@1:4
+t ~> Unexpected@1:2
+t: THEORY BEGIN ASSUMING x: VAR T; h: ASSUMPTION p IMPORTING a ENDASSUMING c: T END t ~> (theory t [(var x T)(assumption h p)(importing a)] (const c: T))
+t: THEORY BEGIN ASSUMING ENDASSUMING END t ~> (theory t [] )
+t: THEORY BEGIN ASSUMING c: T ENDASSUMING END t ~> Unexpected@1:29
+t: THEORY BEGIN ASSUMING x, y: ASSUMPTION p ENDASSUMING END t ~> Unexpected@1:32
+t: THEORY BEGIN ASSUMING f(x): ASSUMPTION p ENDASSUMING END t ~> Unexpected@1:27
+t: THEORY BEGIN ASSUMING END t ~> Unexpected@1:26
+t: THEORY BEGIN c: T ASSUMING ENDASSUMING END t ~> Unexpected@1:22
+t: THEORY BEGIN END u ~> WrongEnd@1:21
+t: THEORY BEGIN END T ~> WrongEnd@1:21
+t: THEORY BEGIN END ~> Unexpected@1:20
+t: THEORY BEGIN END 1 ~> OutOfProfile@1:21
+t: THEORY BEGIN END t; ~> Unexpected@1:22
+t: THEORY BEGIN END t # ~> BadByte@1:23
+t: THEORY BEGIN END u # ~> WrongEnd@1:21
+";
+
+/// Proofs, and neighbours of them.
+const PROOFS: &str = "\
+(proof t.a (a (b) \"c)\" 1))(proof u.proof ()) ~> (proof t.a 11-25@1:12)(proof u.proof 41-43@1:42)
+(proof t.a skip) ~> Unexpected@1:12
+(proof t.a (skip) ~> Unexpected@1:18
+(proof t.a (skip) x) ~> Unexpected@1:19
+(proof t.a ((skip) ~> Unexpected@1:19
+(proof t (skip)) ~> Unexpected@1:10
+(proof .a (skip)) ~> Unexpected@1:8
+(Proof t.a (skip)) ~> Unexpected@1:2
+(t.a (skip)) ~> Unexpected@1:2
+(proof t.1 (skip)) ~> OutOfProfile@1:10
+(proof t.a (skip))) ~> Unexpected@1:19
+) ~> Unexpected@1:1
+\" ~> UnclosedQuote@1:1
+";
+
+fn shown_fault(alloc: Global, fault: &Fault) -> Result<String, AllocError> {
+    let (name, pos) = (code_name(fault.code), fault.pos);
+    format!(in alloc; "{name}@{}:{}", pos.line, pos.col)
 }
 
-/// Terminals whose places are their numbers, from 1 on.
-fn terminals(alloc: Global, text: &str) -> Result<Vec<Terminal>, AllocError> {
-    let mut found = Vec::new(alloc);
-    let mut col = 0u32;
-    for word in text.split(' ') {
-        col = col.wrapping_add(1);
-        found.push(Terminal {
-            kind: kind(word),
-            word: Word {
-                start: col,
-                end: col,
-                pos: Pos { line: 1, col },
-            },
-        })?;
-    }
-    Ok(found)
-}
-
-fn sign(word: InfixWord) -> &'static str {
-    match word {
-        InfixWord::And => "&",
-        InfixWord::Or => "|",
-        InfixWord::Implies => "=>",
-        InfixWord::Iff => "<=>",
-        InfixWord::Equal => "=",
-        InfixWord::Differs => "/=",
-    }
-}
-
-fn binder(word: BinderWord) -> &'static str {
-    match word {
-        BinderWord::Forall => "A",
-        BinderWord::Exists => "E",
-        BinderWord::Lambda => "L",
-    }
-}
-
-/// A name, in which a word is its number.
-#[cycle(shown)]
-fn shown_name(alloc: Global, name: &NameExpr) -> Result<String, AllocError> {
-    let word = name.word.start;
-    let Some(inst) = &name.qualifier else {
-        return format!(in alloc; "{word}");
+fn shown_expr(
+    alloc: Global,
+    text: &[u8],
+    has_places: bool,
+    read: &Result<Expr, ParseFault>,
+) -> Result<String, AllocError> {
+    let style = Style {
+        alloc,
+        text,
+        has_places,
     };
-    let mut out = format!(in alloc; "{}[", inst.theory.start)?;
-    for actual in inst.actuals.as_slice() {
-        out.push_str(&shown_actual(alloc, actual)?)?;
-        out.push(' ')?;
-    }
-    out.push_str(&format!(in alloc; "].{word}")?)?;
-    Ok(out)
-}
-
-#[cycle(shown)]
-fn shown_actual(alloc: Global, actual: &Actual) -> Result<String, AllocError> {
-    match actual {
-        Actual::ExprActual(expr) => shown(alloc, expr),
-        Actual::TypeActual(ty) => shown_type(alloc, ty),
+    match read {
+        Ok(tree) => {
+            let mut out = String::new(alloc);
+            shown::expr(&style, &mut out, tree)?;
+            Ok(out)
+        }
+        Err(ParseFault::At(fault)) => shown_fault(alloc, fault),
+        Err(ParseFault::Memory) => Err(AllocError),
     }
 }
 
-#[cycle(shown)]
-fn shown_type(alloc: Global, ty: &TypeExpr) -> Result<String, AllocError> {
-    match ty {
-        TypeExpr::NameType(name) => shown_name(alloc, name),
-        TypeExpr::FunType(domain, range, pos) => {
-            let domain = shown_bindings(alloc, domain.as_slice())?;
-            let range = shown_type(alloc, range.get())?;
-            format!(in alloc; "fun@{} {domain}-> {range}", pos.col)
-        }
-        TypeExpr::TupleType(components, pos) => {
-            let components = shown_bindings(alloc, components.as_slice())?;
-            format!(in alloc; "tuple@{} {components}", pos.col)
-        }
-        TypeExpr::SubType(word, base, test, pos) => {
-            let base = shown_type(alloc, base.get())?;
-            let test = shown(alloc, test.get())?;
-            format!(in alloc; "sub@{} {}:{base}|{test}", pos.col, word.start)
-        }
-        TypeExpr::PredType(test, pos) => {
-            let test = shown(alloc, test.get())?;
-            format!(in alloc; "pred@{} {test}", pos.col)
-        }
-    }
-}
-
-#[cycle(shown)]
-fn shown_bindings(alloc: Global, bindings: &[Binding]) -> Result<String, AllocError> {
-    let mut out = String::new(alloc);
-    for binding in bindings {
-        out.push_str(&format!(in alloc; "{}", binding.word.start)?)?;
-        if let Some(ty) = &binding.ty {
-            out.push(':')?;
-            out.push_str(&shown_type(alloc, ty)?)?;
-        }
-        out.push(' ')?;
+/// The declarations of a text that is one theory.
+fn only_decls(style: &Style<'_>, tree: &Unit) -> Result<String, AllocError> {
+    let mut out = String::new(style.alloc);
+    match tree.items.as_slice() {
+        [Item::Theory(theory)] => shown::decls(style, &mut out, theory.decls.as_slice())?,
+        _ => out.push('?')?,
     }
     Ok(out)
 }
 
-#[cycle(shown)]
-fn shown_parts(alloc: Global, parts: &[LetPart]) -> Result<String, AllocError> {
-    let mut out = String::new(alloc);
-    for part in parts {
-        out.push_str(&format!(in alloc; "{}", part.word.start)?)?;
-        if let Some(ty) = &part.ty {
-            out.push(':')?;
-            out.push_str(&shown_type(alloc, ty)?)?;
-        }
-        let value = shown(alloc, &part.value)?;
-        out.push_str(&format!(in alloc; "={value} ")?)?;
-    }
+fn whole_unit(style: &Style<'_>, tree: &Unit) -> Result<String, AllocError> {
+    let mut out = String::new(style.alloc);
+    shown::unit(style, &mut out, tree)?;
     Ok(out)
 }
 
-#[cycle(shown)]
-fn shown_list(alloc: Global, exprs: &[Expr]) -> Result<String, AllocError> {
-    let mut out = String::new(alloc);
-    for expr in exprs {
-        out.push_str(&shown(alloc, expr)?)?;
-        out.push(' ')?;
-    }
-    Ok(out)
+/// What the text of a row is.
+#[derive(Clone, Copy)]
+enum Kind {
+    Expression,
+    /// An expression that is shown with places.
+    Placed,
+    /// Declarations, which are put on the second of three lines of a theory.
+    Declarations,
+    Unit,
 }
 
-/// An expression in which each operator has its parentheses.
-#[cycle(shown)]
-fn shown(alloc: Global, expr: &Expr) -> Result<String, AllocError> {
-    match expr {
-        Expr::Truth(truth, _) => format!(in alloc; "{truth}"),
-        Expr::NameTerm(name) => shown_name(alloc, name),
-        Expr::Apply(function, arguments) => {
-            let function = shown(alloc, function.get())?;
-            let arguments = shown_list(alloc, arguments.as_slice())?;
-            format!(in alloc; "{function}<{arguments}>")
-        }
-        Expr::Project(operand, word) => {
-            let operand = shown(alloc, operand.get())?;
-            format!(in alloc; "{operand}`{}", word.start)
-        }
-        Expr::Paren(inner, pos) => {
-            let inner = shown(alloc, inner.get())?;
-            format!(in alloc; "paren@{} {inner}", pos.col)
-        }
-        Expr::TupleTerm(parts, pos) => {
-            let parts = shown_list(alloc, parts.as_slice())?;
-            format!(in alloc; "tuple@{} {parts}", pos.col)
-        }
-        Expr::Cond(test, holds, fails, pos) => {
-            let test = shown(alloc, test.get())?;
-            let holds = shown(alloc, holds.get())?;
-            let fails = shown(alloc, fails.get())?;
-            format!(in alloc; "[if@{} {test} {holds} {fails}]", pos.col)
-        }
-        Expr::Binder(word, bindings, body, pos) => {
-            let bindings = shown_bindings(alloc, bindings.as_slice())?;
-            let body = shown(alloc, body.get())?;
-            format!(in alloc; "{}@{} {bindings}. {body}", binder(*word), pos.col)
-        }
-        Expr::Let(parts, body, pos) => {
-            let parts = shown_parts(alloc, parts.as_slice())?;
-            let body = shown(alloc, body.get())?;
-            format!(in alloc; "let@{} {parts}in {body}", pos.col)
-        }
-        Expr::Not(operand, pos) => {
-            let operand = shown(alloc, operand.get())?;
-            format!(in alloc; "not@{} {operand}", pos.col)
-        }
-        Expr::Infix(word, left, right) => {
-            let left = shown(alloc, left.get())?;
-            let right = shown(alloc, right.get())?;
-            format!(in alloc; "({left} {} {right})", sign(*word))
-        }
+fn shown_unit(alloc: Global, text: &[u8], kind: Kind) -> Result<String, AllocError> {
+    let style = Style {
+        alloc,
+        text,
+        has_places: false,
+    };
+    match (parse_unit(alloc, text), kind) {
+        (Ok(tree), Kind::Declarations) => only_decls(&style, &tree),
+        (Ok(tree), _) => whole_unit(&style, &tree),
+        (Err(ParseFault::At(fault)), _) => shown_fault(alloc, &fault),
+        (Err(ParseFault::Memory), _) => Err(AllocError),
     }
 }
 
-/// Texts, and their trees.
-const TREES: [(&str, &str); 14] = [
-    (
-        "x IFF y IMPLIES z OR TRUE AND w IFF v",
-        "(1 <=> ((3 => (5 | (true & 9))) <=> 11))",
-    ),
-    ("NOT x = y /= NOT z", "not@1 ((2 = 4) /= not@6 7)"),
-    ("x = y = z", "((1 = 3) = 5)"),
-    ("x OR FORALL y : z OR w", "(1 | A@3 4 . (6 | 8))"),
-    (
-        "EXISTS x , y : LAMBDA ( z : u , w ) : v",
-        "E@1 2 4 . L@6 8:10 12 . 15",
-    ),
-    (
-        "LET x = y , z : ( w ) = u IN z",
-        "let@1 2=4 6:pred@8 9=12 in 14",
-    ),
-    ("( x ) ( y , z ) ( w ) ` 1", "paren@1 2<5 7 ><10 >`13"),
-    ("( x , y )", "tuple@1 2 4 "),
-    (
-        "IF x THEN y ELSIF z THEN w ELSE v ENDIF",
-        "[if@1 2 4 [if@5 6 8 10]]",
-    ),
-    (
-        "x . y AND z [ w , [ u , v ] , { a : b | c } ] . d",
-        "(1[].3 & 5[7 tuple@9 10:10 12:12  sub@15 16:18|20 ].24)",
-    ),
-    ("x [ [ y : z , w -> u ] ] . v", "1[fun@3 4:6 8:8 -> 10 ].14"),
-    (
-        "x [ [ [ y -> z ] , w -> u ] ] . v",
-        "1[fun@3 4:fun@4 5:5 -> 7 10:10 -> 12 ].16",
-    ),
-    ("x ( ( y ) = z , NOT w )", "1<(paren@3 4 = 7) not@9 10 >"),
-    (
-        "NOT IF x THEN y ELSE z ENDIF ( w )",
-        "not@1 [if@2 3 5 7]<10 >",
-    ),
-];
-
-#[test]
-fn trees_of_texts(rt: HostRuntime) -> Result<(), Fail> {
-    let alloc = rt.alloc();
-    for (text, want) in TREES {
-        let tokens = terminals(alloc, text)?;
-        let Ok(tree) = expression(alloc, &tokens) else {
-            assert!(rt; false, "no tree: {text}");
-            return Ok(());
-        };
-        assert_eq!(rt; shown(alloc, &tree)?.as_str(), want);
-    }
-    Ok(())
-}
-
-/// Texts, and how many of their tokens are left where reading stops.
-const STOPS: [(&str, usize); 7] = [
-    ("x y", 1),
-    ("x AND", 0),
-    ("( x", 0),
-    ("IF x THEN y ENDIF", 1),
-    ("x [ y ]", 0),
-    ("FORALL x y : z", 3),
-    ("x [ [ y ] ] . z", 4),
-];
-
-#[test]
-fn stops_of_texts(rt: HostRuntime) -> Result<(), Fail> {
-    let alloc = rt.alloc();
-    for (text, want) in STOPS {
-        let tokens = terminals(alloc, text)?;
-        match expression(alloc, &tokens) {
-            Err(Failure::At(stop)) => {
-                assert_eq!(rt; stop.reason, Reason::Unexpected);
-                assert_eq!(rt; stop.left, want, "{text}");
-            }
-            _ => assert!(rt; false, "read: {text}"),
-        }
-    }
-    Ok(())
-}
-
-/// The words of `before` so many times, then `within`, and those of `behind` as often.
-fn repeated(alloc: Global, parts: [&str; 3], count: usize) -> Result<String, AllocError> {
-    let [before, within, behind] = parts;
-    let mut text = String::new(alloc);
-    for _ in 0..count {
-        text.push_str(before)?;
-    }
-    text.push_str(within)?;
-    for _ in 0..count {
-        text.push_str(behind)?;
-    }
+fn in_theory(alloc: Global, decls: &[u8]) -> Result<Vec<u8>, AllocError> {
+    let mut text = Vec::new(alloc);
+    text.extend_from_slice(b"t: THEORY BEGIN\n")?;
+    text.extend_from_slice(decls)?;
+    text.extend_from_slice(b"\nEND t")?;
     Ok(text)
 }
 
-/// Lists, by what stands before their first item, each further item, and behind the last.
-const LISTS: [[&str; 3]; 6] = [
-    ["( x", " , x", " )"],
-    ["x [ x", " , x", " ] . x"],
-    ["x [ [ x", " , x", " ] ] . x"],
-    ["FORALL ( x", " , x", " ) : x"],
-    ["FORALL x", " , x", " : x"],
-    ["LET x = y", " , x = y", " IN x"],
+fn whole_expr(alloc: Global, text: &[u8], has_places: bool) -> Result<String, AllocError> {
+    if text.len() > MAX_TEXT {
+        return Err(AllocError);
+    }
+    let read = parse_expr(alloc, text, 0, text.len() as u32, Pos::FIRST);
+    shown_expr(alloc, text, has_places, &read)
+}
+
+/// The tree of a text, or its first fault.
+fn shown(alloc: Global, text: &[u8], kind: Kind) -> Result<String, AllocError> {
+    match kind {
+        Kind::Expression => whole_expr(alloc, text, false),
+        Kind::Placed => whole_expr(alloc, text, true),
+        Kind::Declarations => shown_unit(alloc, &in_theory(alloc, text)?, kind),
+        Kind::Unit => shown_unit(alloc, text, kind),
+    }
+}
+
+/// Whether the text of a row is what the row says.
+fn holds(alloc: Global, row: &str, kind: Kind) -> Result<bool, AllocError> {
+    match row.split_once(" ~> ") {
+        Some((text, want)) => {
+            let found = shown(alloc, text.as_bytes(), kind)?;
+            Ok(found.as_str() == want)
+        }
+        None => Ok(false),
+    }
+}
+
+/// The first row that does not hold, or nothing.
+fn wrong<'a>(alloc: Global, rows: &'a str, kind: Kind) -> Result<&'a str, AllocError> {
+    for row in rows.lines() {
+        if !holds(alloc, row, kind)? {
+            return Ok(row);
+        }
+    }
+    Ok("")
+}
+
+#[test]
+fn expressions(rt: HostRuntime) -> Result<(), Fail> {
+    let alloc = rt.alloc();
+    assert_eq!(rt; wrong(alloc, TERMS, Kind::Expression)?, "");
+    assert_eq!(rt; wrong(alloc, BINDERS, Kind::Expression)?, "");
+    assert_eq!(rt; wrong(alloc, PLACES, Kind::Placed)?, "");
+    assert_eq!(rt; wrong(alloc, FAULTS, Kind::Expression)?, "");
+    Ok(())
+}
+
+#[test]
+fn units(rt: HostRuntime) -> Result<(), Fail> {
+    let alloc = rt.alloc();
+    assert_eq!(rt; wrong(alloc, DECLARATIONS, Kind::Declarations)?, "");
+    assert_eq!(rt; wrong(alloc, THEORIES, Kind::Unit)?, "");
+    assert_eq!(rt; wrong(alloc, PROOFS, Kind::Unit)?, "");
+    Ok(())
+}
+
+/// Texts of several lines.
+const LINES: [(&[u8], Kind, &str); 3] = [
+    (b"a AND\n  )", Kind::Expression, "Unexpected@2:3"),
+    (b"t: THEORY BEGIN\n# END t", Kind::Unit, "BadByte@2:1"),
+    (
+        b"t: THEORY BEGIN END t\n(proof t.a (skip))",
+        Kind::Unit,
+        "(theory t [] )(proof t.a 33-39@2:12)",
+    ),
 ];
 
 #[test]
-fn limits_of_lists(rt: HostRuntime) -> Result<(), Fail> {
-    let alloc = rt.alloc();
-    for [before, item, behind] in LISTS {
-        let text = repeated(alloc, [item, "", ""], 199)?;
-        let most = format!(in alloc; "{before}{text}{behind}")?;
-        assert!(rt;
-            expression(alloc, &terminals(alloc, &most)?).is_ok(),
-            "{before}"
-        );
-        let more = format!(in alloc; "{before}{text} , )")?;
-        let bare = format!(in alloc; "{before}{text} , x")?;
-        for (text, reason) in [(bare, Reason::TooNested), (more, Reason::Unexpected)] {
-            match expression(alloc, &terminals(alloc, &text)?) {
-                Err(Failure::At(stop)) => {
-                    assert_eq!(rt; stop.reason, reason);
-                    assert_eq!(rt; stop.left, 1);
-                }
-                _ => assert!(rt; false, "read: {before}"),
-            }
-        }
+fn lines(rt: HostRuntime) -> Result<(), Fail> {
+    for (text, kind, want) in LINES {
+        let found = shown(rt.alloc(), text, kind)?;
+        assert_eq!(rt; found.as_str(), want);
     }
     Ok(())
 }
 
-/// What nests, and how often it may.
-const LIMITS: [([&str; 3], usize); 14] = [
-    (["( ", "x", " )"], 200),
-    (["NOT ", "x", ""], 200),
-    (["x AND ", "x", ""], 200),
-    (["x = ", "x", ""], 200),
-    (["x ( ", "x", " )"], 200),
-    (["", "x", " ( y )"], 200),
-    (["", "x", " ` 1"], 200),
-    (["FORALL x , y : ", "x", ""], 200),
-    (["LET x = y IN ", "x", ""], 200),
-    (["IF x THEN ", "x", " ELSE y ENDIF"], 200),
-    (["IF x THEN y ELSIF ", "x", " THEN y ELSE y ENDIF"], 100),
-    (["x [ [ ", "x", " -> x ] ] . x"], 100),
-    (["x [ { x : ( ", "x", " ) | x } ] . x"], 66),
-    (["( x , ", "x", " , x )"], 200),
+/// What stands before a piece that is repeated, the piece, what stands in the middle, the piece
+/// that stands as often behind it, and the end.
+type Pieces = [&'static [u8]; 5];
+
+fn repeated(alloc: Global, pieces: &Pieces, times: u32) -> Result<Vec<u8>, AllocError> {
+    let [before, first, middle, second, end] = *pieces;
+    let mut text = Vec::new(alloc);
+    text.extend_from_slice(before)?;
+    for _ in 0..times {
+        text.extend_from_slice(first)?;
+    }
+    text.extend_from_slice(middle)?;
+    for _ in 0..times {
+        text.extend_from_slice(second)?;
+    }
+    text.extend_from_slice(end)?;
+    Ok(text)
+}
+
+/// The first fault of a unit with so many pieces, or `ok`.
+fn stop(alloc: Global, pieces: &Pieces, times: u32) -> Result<String, AllocError> {
+    let text = repeated(alloc, pieces, times)?;
+    match parse_unit(alloc, &text) {
+        Ok(_) => format!(in alloc; "ok"),
+        Err(ParseFault::At(fault)) => shown_fault(alloc, &fault),
+        Err(ParseFault::Memory) => Err(AllocError),
+    }
+}
+
+/// Texts, how many pieces they may have at most, and the first fault with one more.
+const LIMITS: [(Pieces, u32, &str); 21] = [
+    (
+        [b"t: THEORY BEGIN\n", b"a, ", b"a: TYPE", b"", b"\nEND t"],
+        199,
+        "TooNested@2:601",
+    ),
+    (
+        [
+            b"t[",
+            b"a: TYPE, ",
+            b"a: TYPE",
+            b"",
+            b"]: THEORY BEGIN END t",
+        ],
+        199,
+        "TooNested@1:1803",
+    ),
+    (
+        [
+            b"t: THEORY BEGIN\nIMPORTING t[",
+            b"a, ",
+            b"a",
+            b"",
+            b"]\nEND t",
+        ],
+        199,
+        "TooNested@2:613",
+    ),
+    (
+        [b"t: THEORY BEGIN\nf(", b"a, ", b"a", b"", b"): T\nEND t"],
+        199,
+        "TooNested@2:603",
+    ),
+    (
+        [
+            b"t: THEORY BEGIN\nf: T = f(",
+            b"a, ",
+            b"a",
+            b"",
+            b")\nEND t",
+        ],
+        199,
+        "TooNested@2:610",
+    ),
+    (
+        [b"t: THEORY BEGIN\nc: [", b"a, ", b"a", b"", b"]\nEND t"],
+        199,
+        "TooNested@2:605",
+    ),
+    (
+        [
+            b"t: THEORY BEGIN\nl: LEMMA LET ",
+            b"a = b, ",
+            b"a = b",
+            b"",
+            b" IN c\nEND t",
+        ],
+        199,
+        "TooNested@2:1414",
+    ),
+    (
+        [
+            b"t: THEORY BEGIN\nl: LEMMA FORALL ",
+            b"a, ",
+            b"a",
+            b"",
+            b": c\nEND t",
+        ],
+        199,
+        "TooNested@2:617",
+    ),
+    (
+        [
+            b"t: THEORY BEGIN\nl: LEMMA ",
+            b"NOT ",
+            b"a",
+            b"",
+            b"\nEND t",
+        ],
+        200,
+        "TooNested@2:810",
+    ),
+    (
+        [
+            b"t: THEORY BEGIN\nl: LEMMA ",
+            b"a AND ",
+            b"a",
+            b"",
+            b"\nEND t",
+        ],
+        200,
+        "TooNested@2:1212",
+    ),
+    (
+        [
+            b"t: THEORY BEGIN\nl: LEMMA ",
+            b"a = ",
+            b"a",
+            b"",
+            b"\nEND t",
+        ],
+        200,
+        "TooNested@2:812",
+    ),
+    (
+        [b"t: THEORY BEGIN\nl: LEMMA ", b"", b"a", b"(b)", b"\nEND t"],
+        200,
+        "TooNested@2:611",
+    ),
+    (
+        [b"t: THEORY BEGIN\nl: LEMMA ", b"", b"a", b"`1", b"\nEND t"],
+        200,
+        "TooNested@2:411",
+    ),
+    (
+        [
+            b"t: THEORY BEGIN\nl: LEMMA ",
+            b"FORALL a: ",
+            b"b",
+            b"",
+            b"\nEND t",
+        ],
+        200,
+        "TooNested@2:2010",
+    ),
+    (
+        [
+            b"t: THEORY BEGIN\nl: LEMMA ",
+            b"LET a = b IN ",
+            b"c",
+            b"",
+            b"\nEND t",
+        ],
+        200,
+        "TooNested@2:2610",
+    ),
+    (
+        [
+            b"t: THEORY BEGIN\nl: LEMMA ",
+            b"IF a THEN ",
+            b"b",
+            b" ELSE c ENDIF",
+            b"\nEND t",
+        ],
+        200,
+        "TooNested@2:2010",
+    ),
+    (
+        [b"t: THEORY BEGIN\nl: LEMMA ", b"(", b"a", b")", b"\nEND t"],
+        200,
+        "TooNested@2:210",
+    ),
+    (
+        [
+            b"t: THEORY BEGIN\nl: LEMMA ",
+            b"(a, NOT b, ",
+            b"c",
+            b")",
+            b"\nEND t",
+        ],
+        199,
+        "TooNested@2:2203",
+    ),
+    (
+        [b"t: THEORY BEGIN\nc: ", b"[a, ", b"b", b"]", b"\nEND t"],
+        200,
+        "TooNested@2:804",
+    ),
+    (
+        [b"t[c: ", b"[a, ", b"b", b"]", b"]: THEORY BEGIN END t"],
+        199,
+        "TooNested@1:802",
+    ),
+    (
+        [b"(proof t.a ", b"(", b"", b")", b")"],
+        200,
+        "TooNested@1:212",
+    ),
 ];
 
 #[test]
-fn limits_of_nesting(rt: HostRuntime) -> Result<(), Fail> {
+fn limits(rt: HostRuntime) -> Result<(), Fail> {
     let alloc = rt.alloc();
-    for (parts, count) in LIMITS {
-        let tokens = terminals(alloc, &repeated(alloc, parts, count)?)?;
-        assert!(rt; expression(alloc, &tokens).is_ok(), "{}", parts[0]);
-        let tokens = terminals(alloc, &repeated(alloc, parts, count + 1)?)?;
-        match expression(alloc, &tokens) {
-            Err(Failure::At(stop)) => assert_eq!(rt; stop.reason, Reason::TooNested),
-            _ => assert!(rt; false, "read: {}", parts[0]),
-        }
+    for (pieces, most, fault) in LIMITS {
+        let found = stop(alloc, &pieces, most)?;
+        assert_eq!(rt; found.as_str(), "ok");
+        let found = stop(alloc, &pieces, most.saturating_add(1))?;
+        assert_eq!(rt; found.as_str(), fault);
     }
+    Ok(())
+}
+
+#[test]
+fn length_of_texts(rt: HostRuntime) -> Result<(), Fail> {
+    let alloc = rt.alloc();
+    let mut text = vec![in alloc; b' '; MAX_TEXT]?;
+    let found = shown(alloc, &text, Kind::Unit)?;
+    assert_eq!(rt; found.as_str(), "");
+    text.push(b' ')?;
+    let found = shown(alloc, &text, Kind::Unit)?;
+    assert_eq!(rt; found.as_str(), "TextTooLong@1:1");
+    Ok(())
+}
+
+/// Three expressions in quotes.
+const QUOTES: &[u8] = b"\"if aa then b elsif c then d else e endif\" \"x =\nNOT (y)\" \"p q\"";
+
+#[test]
+fn spans_of_texts(rt: HostRuntime) -> Result<(), Fail> {
+    let alloc = rt.alloc();
+    let read = parse_expr(alloc, QUOTES, 1, 41, Pos { line: 3, col: 9 });
+    let found = shown_expr(alloc, QUOTES, true, &read)?;
+    assert_eq!(rt; found.as_str(), "(if@9 aa b (if@22 c d e))");
+    let read = parse_expr(alloc, QUOTES, 44, 55, Pos { line: 3, col: 52 });
+    let found = shown_expr(alloc, QUOTES, true, &read)?;
+    assert_eq!(rt; found.as_str(), "(= x (~@1 (paren@5 y)))");
+    let read = parse_expr(alloc, QUOTES, 58, 61, Pos { line: 4, col: 12 });
+    let found = shown_expr(alloc, QUOTES, true, &read)?;
+    assert_eq!(rt; found.as_str(), "Unexpected@4:14");
     Ok(())
 }
