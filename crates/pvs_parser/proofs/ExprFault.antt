@@ -53,6 +53,7 @@ halts_of ts (Ok (x, m, t ∷ us)) read e h =
     let f = (read_expr_sound bounded (length ts + 1) outermost ts).holds (x, m, t ∷ us) read in
     subst (λ z. HaltsAt IsExpr Nowhere ts z) (stop_same (stop (t ∷ us)) (record { left = length (t ∷ us); reason = reason.Unexpected }) e refl h)
     (record { before = f.1; rest = t ∷ us; split = f.2.same; left = refl; within = IsWithin.begins ([], subst (λ z. IsExpr bounded z) (sym (append-nil f.1)) (x, f.0, m, f.3)); why = λ v more g is no_place. no_place })
+
 -- reading the rest of an expression
 ended_goes : (cut : Cut) (x : Expr) (mode : Mode) (m : ℕ) (ts us : Tokens) → Meets cut mode m ts us → Goes cut alone mode m (ended x ts) (ended x us)
 ended_goes cut x mode m ts us h = heads cut alone mode m (λ z. ended x z) (λ z. ended x z) ts us h (omega arith) (λ a la t vs ws meets took less. stops cut alone a m (t ∷ vs) (t ∷ ws) meets)
