@@ -17,4 +17,5 @@ pub mod SoundTheories
 pub mod SoundReports
 pub mod SoundOutput
 pub mod SoundOpen
+pub mod OpenExampleReads
 pub mod PlaceBounds

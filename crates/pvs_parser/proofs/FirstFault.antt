@@ -1,5 +1,5 @@
 -- Where reading stops is the first fault, and there is one at most.
-use Rattle.std.proofs.Common.{◌≡◌, ◌∙◌, ℕ, zero, suc, ◌+◌, ◌-◌, ◌<◌, ◌≤◌, ◌⊎◌, inl, inr, Bool, true, false, if◌then◌else◌, List, [], ◌∷◌, ◌++◌, length, slice_get, Option, Some, None, Result, Ok, Err, refl, sym, ap, subst, append_assoc, append-nil, length-append, arith}
+use Rattle.std.proofs.Common.{◌≡◌, ◌∙◌, ℕ, suc, ◌-◌, ◌<◌, ◌⊎◌, inl, inr, Bool, true, false, [], ◌∷◌, ◌++◌, length, slice_get, Option, Some, None, Result, Ok, Err, refl, sym, ap, subst, append_assoc, append-nil, length-append, arith}
 use Rattle.pvs_base.specs.declared.code.Fault.{Fault}
 use Rattle.pvs_base.specs.declared.place.Pos.{Pos}
 use Rattle.pvs_parser.specs.declared.failure.Reason.{Reason}
@@ -9,10 +9,10 @@ use Rattle.pvs_parser.specs.declared.terminal.Terminal.{Terminal}
 use Rattle.pvs_parser.specs.declared.terminal.TerminalKind.TheVariants as kind
 use Rattle.pvs_parser.specs.Terminals.{Is, IsId}
 use Rattle.pvs_parser.specs.Language.{Tokens, Limit, bounded}
-use Rattle.pvs_parser.specs.Descent.{Answer, is_below}
-use Rattle.pvs_parser.specs.Faults.{code_of, last_fault, Begins, IsWithin, BehindEnd, IsWhy, FaultBehind, IsFirst}
+use Rattle.pvs_parser.specs.Descent.{Answer}
+use Rattle.pvs_parser.specs.Faults.{code_of, Begins, IsWithin, IsWhy, FaultBehind, IsFirst}
 use Rattle.pvs_parser.specs.Text.{Terminals, judged, unless_fault, fault_of, fault_at}
-use Rattle.pvs_parser.proofs.Cuts.{Cut, Agrees, Rooms}
+use Rattle.pvs_parser.proofs.Cuts.{Cut, Agrees}
 use Rattle.pvs_parser.proofs.Locality.{Paired}
 use Rattle.pvs_parser.proofs.UnitLocality.{alone}
 

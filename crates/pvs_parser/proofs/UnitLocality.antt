@@ -1,16 +1,13 @@
 -- Reading units looks at no token behind the one where it stops.
-use Rattle.std.proofs.Common.{◌≡◌, ◌∙◌, ℕ, zero, suc, ◌+◌, ◌-◌, ◌<◌, ◌≤◌, ◌⊎◌, inl, inr, Bool, true, false, if◌then◌else◌, List, [], ◌∷◌, ◌++◌, length, map, Option, Some, None, Result, Ok, Err, refl, sym, ap, subst, length-append, arith}
+use Rattle.std.proofs.Common.{◌≡◌, ◌∙◌, ℕ, zero, suc, ◌+◌, ◌-◌, ◌<◌, ◌≤◌, ◌⊎◌, inl, inr, Bool, true, false, if◌then◌else◌, List, [], ◌∷◌, ◌++◌, length, map, Option, Some, None, Ok, Err, refl, sym, ap, subst, length-append, arith}
 use Rattle.std.specs.Prelude.{bytes_eq}
 use Rattle.pvs_parser.specs.declared.failure.Reason.TheVariants as reason
-use Rattle.pvs_parser.specs.declared.failure.Stop.{Stop}
 use Rattle.pvs_parser.specs.declared.nesting.Nesting.{Nesting}
 use Rattle.pvs_parser.specs.declared.terminal.Terminal.{Terminal}
 use Rattle.pvs_parser.specs.declared.terminal.TerminalKind.{TerminalKind}
 use Rattle.pvs_parser.specs.declared.terminal.TerminalKind.TheVariants as kind
 use Rattle.pvs_syntax.specs.declared.word.Word.{Word}
-use Rattle.pvs_syntax.specs.declared.expression.Actual.{Actual}
 use Rattle.pvs_syntax.specs.declared.expression.Binding.{Binding}
-use Rattle.pvs_syntax.specs.declared.expression.Expr.{Expr}
 use Rattle.pvs_syntax.specs.declared.expression.InstExpr.{InstExpr}
 use Rattle.pvs_syntax.specs.declared.expression.TypeExpr.{TypeExpr}
 use Rattle.pvs_syntax.specs.declared.unit.Decl.{Decl}
@@ -20,21 +17,19 @@ use Rattle.pvs_syntax.specs.declared.unit.FormulaWord.{FormulaWord}
 use Rattle.pvs_syntax.specs.declared.unit.FormulaWord.TheVariants as formula_word
 use Rattle.pvs_syntax.specs.declared.unit.Item.{Item}
 use Rattle.pvs_syntax.specs.declared.unit.Item.TheVariants as item
-use Rattle.pvs_syntax.specs.declared.unit.Proof.{Proof}
-use Rattle.pvs_syntax.specs.declared.unit.Theory.{Theory}
 use Rattle.pvs_syntax.specs.declared.unit.Unit as tree
 use Rattle.pvs_parser.specs.Terminals.{IsId, is_id, same_kind}
 use Rattle.pvs_parser.specs.Language.{Tokens, Limit, Item as ListItem, instance, cleared, outermost, inside}
 use Rattle.pvs_parser.specs.Units.{DerivesDecl, DerivesAssumed, type_formal, const_formal, type_decl, var_decl, const_decl, formula_of, spelling}
-use Rattle.pvs_parser.specs.Descent.{Answer, Read, ◌>>=◌, either, stop, too_many, too_deep, after, expect, id, is_below, enter, deeper, crowded, list_from, entries, framed_with, reader}
-use Rattle.pvs_parser.specs.UnitDescent.{whole_reader, expr, type, name, ids, actuals, inst, instances_from, importing, plus, formal_of, formal_after, formal, formals_from, formals, formal_part, variables, body, constant, function, constants, type_definition, type_decls, types, formula, formulas, stated, declared_of, declared, named, begun, declaration, assumed_of, assumed_after, assumed, comes_kind, comes_decl, past_semicolon, many_from, declarations, assumptions, assuming_part, heading, same_name, ending, theory, balanced_of, balanced, script, target, proof, one_item, items_from, unit}
+use Rattle.pvs_parser.specs.Descent.{Answer, Read, ◌>>=◌, either, stop, too_many, too_deep, after, expect, id, is_below, crowded, list_from, entries}
+use Rattle.pvs_parser.specs.UnitDescent.{expr, type, name, ids, actuals, inst, instances_from, importing, plus, formal_of, formal_after, formal, formals_from, formals, formal_part, variables, body, constant, function, constants, type_definition, type_decls, types, formula, formulas, stated, declared_of, declared, named, begun, declaration, assumed_of, assumed_after, assumed, comes_kind, comes_decl, past_semicolon, many_from, declarations, assumptions, assuming_part, heading, same_name, ending, theory, balanced_of, balanced, script, target, proof, one_item, items_from, unit}
 use Rattle.pvs_parser.proofs.Yields.{Yields}
 use Rattle.pvs_parser.proofs.Deeper.{Fore}
 use Rattle.pvs_parser.proofs.Decls.{declaration_sound, assumed_sound}
 use Rattle.pvs_parser.proofs.DeclsRead.{decl_comes, assumed_comes}
 use Rattle.pvs_parser.proofs.WholeUnits.{IsItem, item_sound, item_some}
-use Rattle.pvs_parser.proofs.Cuts.{Cut, Mode, Meets, Took, Later, later_trans, low_later, low_less, low_more, Low, Shape, two, three, four, Goes, Shrinks, Agrees, Rooms, beyond, bind_later, bind_past, after_later, after_past, done_two, done_three, weaken, raise, deep, heads, stops, pick, expect_then, id_then, room_then, length_cut}
-use Rattle.pvs_parser.proofs.Locality.{Paired, Lists, Items, crowded_past, list_past, list_goes, raise_to, start_enough, id_stops, crowded_goes, whole_expr, whole_type, whole_framed, Fits, fits_less, fits_later, Turns, turns_less, turns_later, no_turn}
+use Rattle.pvs_parser.proofs.Cuts.{Cut, Mode, Meets, Took, Later, later_trans, Low, Shape, two, three, Goes, Shrinks, Agrees, Rooms, beyond, bind_later, bind_past, after_later, after_past, done_two, done_three, weaken, raise, deep, heads, stops, pick, expect_then, id_then, room_then, length_cut}
+use Rattle.pvs_parser.proofs.Locality.{Paired, Lists, Items, crowded_past, list_past, list_goes, raise_to, start_enough, id_stops, crowded_goes, whole_expr, whole_type, whole_framed, Fits, fits_less, fits_later, Turns, turns_less, no_turn}
 
 -- a function of tokens that follows another one
 abbrev pub Follows : {X : Type 0} → Cut → Shape X → (Tokens → Answer X) → (Tokens → Answer X) → Type 0
