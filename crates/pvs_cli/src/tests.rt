@@ -785,6 +785,50 @@ fn long_texts(rt: HostRuntime) -> Result<(), Fail> {
     Ok(())
 }
 
+/// A theory that nests nearly as deep as a text may, with a list as long as one may be.
+fn deep_and_wide(alloc: Global) -> Result<String, AllocError> {
+    let mut theory = String::from_str(alloc, "t: THEORY BEGIN f: [T")?;
+    for _ in 0..199 {
+        theory.push_str(", T")?;
+    }
+    theory.push_str(" -> bool] l: LEMMA ")?;
+    for _ in 0..199 {
+        theory.push_str("(")?;
+    }
+    theory.push_str("f")?;
+    for _ in 0..199 {
+        theory.push_str(")")?;
+    }
+    theory.push_str("\nEND t\n")?;
+    Ok(theory)
+}
+
+#[test]
+fn large_units(rt: HostRuntime) -> Result<(), Fail> {
+    let theory = deep_and_wide(rt.alloc())?;
+    let mut text = String::new(rt.alloc());
+    for _ in 0..960 {
+        text.push_str(&theory)?;
+    }
+    assert!(rt; text.len() > 1_000_000 && text.len() <= 1 << 20);
+    let room = 1 << 20;
+    let went = outcome(
+        rt.alloc(),
+        &["check"],
+        text.as_bytes(),
+        65_536,
+        None,
+        room,
+        None,
+    )?;
+    let written = from_utf8(&went.written).unwrap_or("no text");
+    let total =
+        "theory t refused 1919:1 OutOfProfile\ntotal complete 0 incomplete 0 open 0 refused 960\n";
+    assert!(rt; written.ends_with(total));
+    assert_eq!(rt; went.status, Status::Unfinished);
+    Ok(())
+}
+
 #[test]
 fn nesting(rt: HostRuntime) -> Result<(), Fail> {
     for (depth, report) in [
