@@ -5,7 +5,7 @@ use Rattle.pvs_base.specs.declared.code.Code.{Code}
 use Rattle.pvs_base.specs.declared.code.Code.TheVariants as code
 use Rattle.pvs_base.specs.declared.code.Fault.{Fault}
 use Rattle.pvs_base.specs.declared.place.Pos.{Pos}
-use Rattle.pvs_base.specs.Place.{place_after}
+use Rattle.pvs_base.specs.Place.{place_after, place_at}
 use Rattle.pvs_lexer.specs.declared.token.Token.{Token}
 use Rattle.pvs_lexer.specs.declared.token.TokenKind.{TokenKind}
 use Rattle.pvs_lexer.specs.declared.token.TokenKind.TheVariants as token
@@ -210,10 +210,10 @@ Answers text (Ok u) = IsAnswer text (Ok u)
 Answers text (Err (parse_fault.At f)) = IsAnswer text (Err f)
 Answers text (Err parse_fault.Memory) = ⊤
 
--- the script of a proof lies in the text
+-- the script of a proof lies in the text, and its place is that of its first byte
 abbrev pub SpanIn : List ℕ → Item → Type 0
 SpanIn text (item.Theory t) = ⊤
-SpanIn text (item.Proof p) = (p.start ≤ p.end) × (p.end ≤ length text)
+SpanIn text (item.Proof p) = (p.start ≤ p.end) × (p.end ≤ length text) × (p.pos ≡ place_at text p.start)
 
 abbrev pub SpansIn : List ℕ → tree.Unit → Type 0
 SpansIn text u = All (SpanIn text) u.items

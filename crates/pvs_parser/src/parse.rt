@@ -68,8 +68,9 @@ fn read_span(alloc: Global, text: &[u8], start: u32, end: u32, pos: Pos) -> Resu
 /// Memory is for want of memory alone.
 pub fn parse_unit(alloc: Global, text: &[u8]) -> Result<Unit, ParseFault>
     ensures answer { Answers text.now result }
-    // The script of each proof lies in the text.
+    // The script of each proof lies in the text, and its place is that of its first byte.
     ensures spans { IfOk result (λ u. SpansIn text.now u) }
+    ensures short { IfOk result (λ u. length text.now ≤ 2 ^ 20) }
 {
     read_text(alloc, text)
 }

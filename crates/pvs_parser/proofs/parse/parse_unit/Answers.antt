@@ -1,4 +1,4 @@
-use Rattle.pvs_parser.proofs.Answers.{unit_answers, unit_spans}
+use Rattle.pvs_parser.proofs.Answers.{unit_answers, unit_spans, unit_short}
 use Rattle.pvs_parser.proofs.parse.parse_unit.Goals as goal
 
 pub returns-clause-answer : goal.returns-clause-answer
@@ -6,3 +6,6 @@ returns-clause-answer c = unit_answers c.args.text.now c.read_text.result c.read
 
 pub returns-clause-spans : goal.returns-clause-spans
 returns-clause-spans c = unit_spans c.args.text.now c.read_text.result c.read_text.ensures
+
+pub returns-clause-short : goal.returns-clause-short
+returns-clause-short c = unit_short c.args.text.now c.read_text.result c.read_text.ensures
