@@ -1,7 +1,6 @@
 -- Entries for several names, of one type that is read for each of them.
 use Rattle.std.proofs.Common.{◌≡◌, ℕ, ◌+◌, ◌<◌, ◌≤◌, List, [], ◌∷◌, ◌++◌, length, map, take, get_or, Ok, Err, ap, ◌∙◌, sym, refl}
 use Rattle.std.proofs.lemmas.List.{take_more, take_all, map-append}
-use Rattle.pvs_parser.specs.declared.failure.Stop.{Stop}
 use Rattle.pvs_syntax.specs.declared.word.Word.{Word}
 use Rattle.pvs_syntax.specs.declared.expression.TypeExpr.{TypeExpr}
 use Rattle.pvs_parser.specs.Language.{Tokens}

@@ -23,9 +23,12 @@ Spans text from to (t ∷ ts) = (from ≤ t.word.start) × (t.word.start ≤ t.w
 spans_of : (text : List ℕ) (from to : ℕ) (ts : List Token) → AreSpans from to ts → All (IsTokenOf first_place text) ts → Spans text from to (map (terminal false 0 text) ts)
 spans_of text from to [] s are = s
 spans_of text from to (t ∷ ts) s are =
-    let at : t.pos ≡ place_at text t.start = (All-head (IsTokenOf first_place text) t ts are).pos in
-    (omega (arith, s.0), omega (arith, s.1), at ∙ ap (place_at text) (omega arith),
-    subst (λ z. Spans text z to (map (terminal false 0 text) ts)) (omega arith) (spans_of text t.end to ts s.2 (All-tail (IsTokenOf first_place text) t ts are)))
+    let at : t.pos ≡ place_at text t.start = (All-head (IsTokenOf first_place text) t ts are).pos in (
+      omega (arith, s.0),
+      omega (arith, s.1),
+      at ∙ ap (place_at text) (omega arith),
+      subst (λ z. Spans text z to (map (terminal false 0 text) ts)) (omega arith) (spans_of text t.end to ts s.2 (All-tail (IsTokenOf first_place text) t ts are)),
+    )
 
 text_spans : (text : List ℕ) → Spans text 0 (length text) (terminals_of_text text).tokens
 text_spans text = spans_of text 0 (length text) (tokens_of first_place text).tokens (tokens_spans first_place text) (tokens_are first_place text)

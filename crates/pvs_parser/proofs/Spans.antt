@@ -1,5 +1,5 @@
 -- The spans of tokens lie in their text.
-use Rattle.std.proofs.Common.{ℕ, ◌≤◌, ◌<◌, List, [], ◌∷◌, arith}
+use Rattle.std.proofs.Common.{ℕ, ◌≤◌, List, [], ◌∷◌, arith}
 use Rattle.pvs_lexer.specs.declared.token.Token.{Token}
 use Rattle.pvs_lexer.specs.Spans.{AreSpans}
 

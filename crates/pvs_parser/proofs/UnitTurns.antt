@@ -1,9 +1,7 @@
 -- Recursions on a count of turns, beside loops that count up.
-use Rattle.std.proofs.Common.{◌≡◌, ℕ, zero, suc, ◌+◌, ◌-◌, ◌<◌, ◌≤◌, List, [], ◌∷◌, ◌++◌, length, Bool, true, false, if◌then◌else◌, Some, None, Ok, Err, ap, ◌∙◌, refl, arith}
+use Rattle.std.proofs.Common.{◌≡◌, ℕ, zero, suc, ◌+◌, ◌-◌, ◌<◌, ◌≤◌, List, [], ◌∷◌, ◌++◌, length, true, false, Some, None, Ok, Err, ap, ◌∙◌, refl, arith}
 use Rattle.pvs_parser.specs.declared.failure.Stop.{Stop}
 use Rattle.pvs_parser.specs.declared.nesting.Nesting.{Nesting}
-use Rattle.pvs_parser.specs.declared.terminal.Terminal.{Terminal}
-use Rattle.pvs_parser.specs.declared.terminal.TerminalKind.{TerminalKind}
 use Rattle.pvs_parser.specs.declared.terminal.TerminalKind.TheVariants as kind
 use Rattle.pvs_syntax.specs.declared.word.Word.{Word}
 use Rattle.pvs_syntax.specs.declared.expression.InstExpr.{InstExpr}
@@ -13,7 +11,7 @@ use Rattle.pvs_syntax.specs.declared.unit.Item.{Item}
 use Rattle.pvs_syntax.specs.declared.unit.Unit as tree
 use Rattle.pvs_parser.specs.declared.declarations.Part.{Part}
 use Rattle.pvs_parser.specs.Language.{Limit, bounded, Tokens, outermost}
-use Rattle.pvs_parser.specs.Descent.{Answer, Read, ◌>>=◌, either, after, id, crowded, stop, ended, too_many, list_from}
+use Rattle.pvs_parser.specs.Descent.{Answer, Read, ◌>>=◌, after, id, stop, ended, list_from}
 use Rattle.pvs_parser.specs.Nests.{comes, crowded_at}
 use Rattle.pvs_parser.specs.Terminals.{is_id}
 use Rattle.pvs_parser.proofs.DescentTurns.{crowded-at}

@@ -2,7 +2,7 @@ use Rattle.pvs_parser.specs.Language.{bounded, outermost}
 use Rattle.pvs_parser.specs.Units.{const_decl}
 use Rattle.pvs_parser.specs.UnitDescent as spec
 use Rattle.pvs_parser.proofs.Each.{are_more, are_all, rest_is}
-use Rattle.std.proofs.Common.{◌<◌, ◌≤◌, length, arith}
+use Rattle.std.proofs.Common.{arith}
 use Rattle.pvs_parser.proofs.declarations.plain_constants.Goals as goal
 
 pub loop-name-preserved : goal.loop-name-preserved

@@ -1,4 +1,4 @@
-use Rattle.std.proofs.Common.{◌≡◌, ◌-◌, ◌<◌, length}
+use Rattle.std.proofs.Common.{◌≡◌, ◌-◌}
 use Rattle.pvs_parser.specs.Language.{bounded}
 use Rattle.pvs_parser.specs.UnitDescent as spec
 use Rattle.pvs_parser.proofs.UnitTurns.{ids_from}
