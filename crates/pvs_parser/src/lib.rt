@@ -23,8 +23,6 @@ mod start;
 mod tables;
 mod terminal;
 mod terms;
-#[cfg(test)]
-mod tests;
 mod text;
 mod theories;
 mod tokens;
