@@ -2,29 +2,19 @@
 use Rattle.std.proofs.Common.{◌≡◌, ◌∙◌, ◌+◌, ◌^◌, ◌⊎◌, inl, inr, ℕ, Bool, true, false, List, ◌++◌, length, take, Option, Some, None, refl, sym, ap, subst, arith, append-nil}
 use Rattle.std.proofs.Math.Seq.{take-length}
 use Rattle.std.proofs.lemmas.List.{length-take, take-append-drop}
-use Rattle.pvs_parser.specs.declared.tree.Unit as unit
-use Rattle.pvs_parser.proofs.Units.{one_unit}
 use Rattle.pvs_cli.specs.declared.input.Input.TheVariants as input
 use Rattle.pvs_cli.specs.declared.status.Status.{Status}
 use Rattle.pvs_cli.specs.declared.status.Status.TheVariants as status
 use Rattle.pvs_cli.specs.Lines.{Line, bytes_of}
-use Rattle.pvs_cli.specs.Reporting.{IsReport, too_long, no_unit, of_unit, unit_lines, with_total}
+use Rattle.pvs_cli.specs.Reporting.{IsReport, OneAnswer, answer_lines, of_text, with_total}
 use Rattle.pvs_cli.specs.Passing.{GivesAll, TakesText}
 use Rattle.pvs_cli.specs.Output.{AddsFront, IsCheck, IsOut, IsReportIn, IsReportOf, TakesAtMost, TakesUnit, WritesAll, WritesFront, WritesReport, WritesReportFront, is_whole, report, status_of, text_of, usage, usage_line}
 
-pub one_report : (text : List ℕ) (ls ms : List Line) → IsReport text ls → IsReport text ms → ls ≡ ms
-one_report text _ _ (too_long h) (too_long k) = refl
-one_report text _ _ (too_long h) (no_unit k n) = absurd (omega arith)
-one_report text _ _ (too_long h) (of_unit k u r) = absurd (omega arith)
-one_report text _ _ (no_unit h n) (too_long k) = absurd (omega arith)
-one_report text _ _ (no_unit h n) (no_unit k m) = refl
-one_report text _ _ (no_unit h n) (of_unit k u r) = absurd (n u r)
-one_report text _ _ (of_unit h v q) (too_long k) = absurd (omega arith)
-one_report text _ _ (of_unit h v q) (no_unit k n) = absurd (n v q)
-one_report text _ _ (of_unit h v q) (of_unit k u r) = ap (λ (x : unit.Unit). with_total (unit_lines text x.theory x.proofs)) (one_unit text v u q r)
+pub one_report : OneAnswer → (text : List ℕ) (ls ms : List Line) → IsReport text ls → IsReport text ms → ls ≡ ms
+one_report one text _ _ (of_text a h) (of_text b k) = ap (λ a. with_total (answer_lines text a)) (one text a b h k)
 
-pub one_output : (text bytes others : List ℕ) (end other : Status) → IsReportOf text bytes end → IsReportOf text others other → bytes ≡ others
-one_output text bytes others end other r q = r.2 ∙ ap bytes_of (one_report text r.0 q.0 r.1 q.1) ∙ sym q.2
+pub one_output : OneAnswer → (text bytes others : List ℕ) (end other : Status) → IsReportOf text bytes end → IsReportOf text others other → bytes ≡ others
+one_output one text bytes others end other r q = r.2 ∙ ap bytes_of (one_report one text r.0 q.0 r.1 q.1) ∙ sym q.2
 
 -- what was given is a front
 pub given_front : (old new : Option (List ℕ)) (all : Bool) (bytes : List ℕ) → GivesAll old new all bytes → AddsFront old new bytes

@@ -1,108 +1,55 @@
 -- A lemma that is printed open and is not true: p is a constant, and the lemma l says p.
-use Rattle.std.proofs.Common.{◌≡◌, ◌∙◌, refl, sym, ap, subst, ℕ, zero, suc, false, List, [], ◌∷◌, Contains, arith, codes, Some, Result, Ok}
+use Rattle.std.proofs.Common.{◌≡◌, ◌∙◌, refl, sym, ap, subst, ◌&&◌, ℕ, zero, suc, Bool, true, false, not, is_some, if◌then◌else◌, List, [], ◌∷◌, ◌++◌, Contains, arith, codes, Option, Some, None, Result, Ok, Err}
+use Rattle.std.specs.Prelude.{⊤}
 use Rattle.std.proofs.lemmas.List.Elements.{Contains-append_left}
 use Rattle.pvs_base.specs.declared.code.Fault.{Fault}
-use Rattle.pvs_parser.specs.declared.lexeme.Lexeme.{Lexeme}
-use Rattle.pvs_parser.specs.declared.lexeme.Sort.{Sort}
-use Rattle.pvs_parser.specs.declared.lexeme.Sort.TheVariants as sort
-use Rattle.pvs_parser.specs.declared.tree.Word.{Word}
-use Rattle.pvs_parser.specs.declared.tree.Expr.TheVariants as expr
-use Rattle.pvs_parser.specs.declared.tree.Expr.TheOpen.{Expr-F}
-use Rattle.pvs_parser.specs.declared.tree.Expr.TheFolds.{fold-roll-Expr}
-use Rattle.pvs_parser.specs.declared.tree.Decl.{Decl}
-use Rattle.pvs_parser.specs.declared.tree.Decl.TheVariants as decl
-use Rattle.pvs_parser.specs.declared.tree.Theory.{Theory}
-use Rattle.pvs_parser.specs.declared.tree.Unit as unit
-use Rattle.pvs_parser.specs.declared.tree.FormulaWord.TheVariants as formula_word
-use Rattle.pvs_parser.specs.Grammar.{Implication, Derives, DerivesNames, DerivesDecl, DerivesDecls, DerivesTheory, DerivesProofs, DerivesUnit, spelling}
-use Rattle.pvs_parser.specs.Text.{lexemes, Reads}
+use Rattle.pvs_base.specs.declared.place.Pos.{Pos}
+use Rattle.pvs_syntax.specs.declared.word.Word.{Word}
+use Rattle.pvs_syntax.specs.declared.expression.NameExpr.{NameExpr}
+use Rattle.pvs_syntax.specs.declared.expression.Expr.TheVariants as expr
+use Rattle.pvs_syntax.specs.declared.expression.TypeExpr.TheVariants as type_expr
+use Rattle.pvs_syntax.specs.declared.expression.Actual.TheOpen.{Expr-F, TypeExpr-F}
+use Rattle.pvs_syntax.specs.declared.expression.Actual.TheFolds.{fold-roll-Expr, fold-roll-NameExpr, fold-roll-TypeExpr}
+use Rattle.pvs_syntax.specs.declared.unit.FormulaWord.TheVariants as formula_word
+use Rattle.pvs_parser.specs.Text.{IsAnswer}
 use Rattle.pvs_terms.specs.Tree.{Tree, Own, Const}
 use Rattle.pvs_sem.specs.Truth.{Interpretation}
-use Rattle.pvs_cli.specs.Entries.{Entry, Constant, Formula, ◌>>=◌, constant, resolve, core_step, core, named, entries_after, entries_of}
+use Rattle.pvs_cli.specs.Forms as forms
+use Rattle.pvs_cli.specs.Entries.{Entry, Constant, Formula, ◌>>=◌, core, entries_after, entries_of, named, named_constant, not_built}
+use Rattle.pvs_cli.specs.Entries as entries_spec
+use Rattle.pvs_cli.specs.Theories.{Part, first_repeated, once, parts_of, theory_entries, theory_part}
 use Rattle.pvs_cli.specs.Lines.{Line, FormulaLine, TotalLine, OpenWord, totals_of}
-use Rattle.pvs_cli.specs.Reporting.{of_unit, with_total, unit_lines, theory_lines}
+use Rattle.pvs_cli.specs.Reporting.{of_text, parts_lines, unit_lines, with_total}
 use Rattle.pvs_cli.specs.Soundness.{Fits}
-use Rattle.pvs_cli.specs.SoundFacts.{IsOpenAndFalse, OpenCanBeFalse, ReportedCanBeFalse}
+use Rattle.pvs_cli.specs.SoundFacts.{IsOpenAndFalse, ReportedCanBeFalse}
+use Rattle.pvs_cli.specs.OpenExample.{bytes, l_decl, p_decl, plain, says_p, small, whole, word}
 
--- the core tree of a name
-pub core_name : (text : List ℕ) (es : List Entry) (w : Word) → core text es (expr.Name w) ≡ constant w.pos (resolve es (spelling text w))
-core_name text es w = ap (core text es) (sym (expr.rolls-Name w)) ∙ fold-roll-Expr (Result Tree Fault) (core_step text es) (Expr-F.Name w)
+-- ---- A plain name.
 
-abbrev pub bytes : List ℕ
-bytes = codes "p: THEORY BEGIN p: bool l: LEMMA p END p"
+module _ (w : Word) where
+  plain_name : forms.plain_name (plain w) ≡ Some w
+  plain_name = fold-roll-NameExpr ⊤ Bool (Option Word) ⊤ ⊤ ⊤ (Option Word) forms.actual_step forms.expr_step forms.type_step forms.binding_step forms.inst_step forms.part_step forms.name_step (record { qualifier = None; word = w })
 
--- a token of the text, which is one line, from one offset up to another
-abbrev token : Sort → ℕ → ℕ → ℕ → Lexeme
-token s from to col = record { sort = s; word = record { start = from; end = to; pos = record { line = 1; col = col } }; number = 0 }
+  plain_type : forms.plain_type (type_expr.NameType (plain w)) ≡ Some w
+  plain_type =
+      ap forms.plain_type (sym (type_expr.rolls-NameType (plain w)))
+      ∙ fold-roll-TypeExpr ⊤ Bool (Option Word) ⊤ ⊤ ⊤ (Option Word) forms.actual_step forms.expr_step forms.type_step forms.binding_step forms.inst_step forms.part_step forms.name_step (TypeExpr-F.NameType (plain w))
+      ∙ plain_name
 
-abbrev p0 : Lexeme
-p0 = token sort.Name 0 1 1
+  built_name : forms.is_built (expr.NameTerm (plain w)) ≡ true
+  built_name =
+      ap forms.is_built (sym (expr.rolls-NameTerm (plain w)))
+      ∙ fold-roll-Expr ⊤ Bool (Option Word) ⊤ ⊤ ⊤ (Option Word) forms.actual_step forms.expr_step forms.type_step forms.binding_step forms.inst_step forms.part_step forms.name_step (Expr-F.NameTerm (plain w))
+      ∙ ap is_some plain_name
 
-abbrev colon0 : Lexeme
-colon0 = token sort.Colon 1 2 2
+  -- the core tree of a plain name
+  pub core_name : (text : List ℕ) (at : Pos) (es : List Entry) → core text at es (expr.NameTerm (plain w)) ≡ named_constant text at es (Some w)
+  core_name text at es =
+      ap (core text at es) (sym (expr.rolls-NameTerm (plain w)))
+      ∙ fold-roll-Expr ⊤ (Result Tree Fault) ⊤ ⊤ ⊤ ⊤ (Option Word) entries_spec.actual_step (entries_spec.core_step text at es) entries_spec.type_step entries_spec.binding_step entries_spec.inst_step entries_spec.part_step entries_spec.name_step (Expr-F.NameTerm (plain w))
+      ∙ ap (named_constant text at es) (fold-roll-NameExpr ⊤ (Result Tree Fault) ⊤ ⊤ ⊤ ⊤ (Option Word) entries_spec.actual_step (entries_spec.core_step text at es) entries_spec.type_step entries_spec.binding_step entries_spec.inst_step entries_spec.part_step entries_spec.name_step (record { qualifier = None; word = w }))
 
-abbrev theory0 : Lexeme
-theory0 = token sort.Theory 3 9 4
-
-abbrev begin0 : Lexeme
-begin0 = token sort.Begin 10 15 11
-
-abbrev p1 : Lexeme
-p1 = token sort.Name 16 17 17
-
-abbrev colon1 : Lexeme
-colon1 = token sort.Colon 17 18 18
-
-abbrev bool1 : Lexeme
-bool1 = token sort.Bool 19 23 20
-
-abbrev l2 : Lexeme
-l2 = token sort.Name 24 25 25
-
-abbrev colon2 : Lexeme
-colon2 = token sort.Colon 25 26 26
-
-abbrev lemma2 : Lexeme
-lemma2 = token sort.Lemma 27 32 28
-
-abbrev p3 : Lexeme
-p3 = token sort.Name 33 34 34
-
-abbrev end0 : Lexeme
-end0 = token sort.End 35 38 36
-
-abbrev p4 : Lexeme
-p4 = token sort.Name 39 40 40
-
-abbrev declared : List Decl
-declared = decl.Constant p1.word ∷ decl.Formula l2.word formula_word.Lemma (expr.Name p3.word) ∷ []
-
-abbrev small : Theory
-small = record { name = p0.word; decls = declared }
-
-abbrev whole : unit.Unit
-whole = record { theory = Some small; proofs = [] }
-
--- the tokens of the text
-abbrev pub tokens : List Lexeme
-tokens = p0 ∷ colon0 ∷ theory0 ∷ begin0 ∷ p1 ∷ colon1 ∷ bool1 ∷ l2 ∷ colon2 ∷ lemma2 ∷ p3 ∷ end0 ∷ p4 ∷ []
-
-says_p : Derives Implication 0 (p3 ∷ []) (expr.Name p3.word) 0
-says_p = Derives.implication 0 0 _ _ (Derives.disjunction 0 0 _ _ (Derives.conjunction 0 0 _ _ (Derives.negation 0 0 _ _ (Derives.name 0 p3 refl))))
-
-declares : DerivesDecls (p1 ∷ colon1 ∷ bool1 ∷ l2 ∷ colon2 ∷ lemma2 ∷ p3 ∷ []) declared
-declares =
-    DerivesDecls.more (p1 ∷ colon1 ∷ bool1 ∷ []) (l2 ∷ colon2 ∷ lemma2 ∷ p3 ∷ []) _ _ (DerivesDecl.constants (p1 ∷ []) (p1.word ∷ []) colon1 bool1 (DerivesNames.one p1 refl) (omega arith) refl refl)
-    (DerivesDecls.more (l2 ∷ colon2 ∷ lemma2 ∷ p3 ∷ []) [] _ [] (DerivesDecl.lemma_of 0 (p3 ∷ []) (expr.Name p3.word) l2 colon2 lemma2 refl refl refl says_p) DerivesDecls.none)
-
-reads : lexemes bytes ≡ Some tokens → Reads bytes whole
-reads lexed = (
-  tokens,
-  lexed,
-  DerivesUnit.theory _ [] small []
-      (DerivesTheory.theory (p1 ∷ colon1 ∷ bool1 ∷ l2 ∷ colon2 ∷ lemma2 ∷ p3 ∷ []) declared p0 colon0 theory0 begin0 end0 p4 refl refl refl refl declares refl refl refl)
-      DerivesProofs.none,
-)
+-- ---- The theory is accepted.
 
 abbrev p_entry : Entry
 p_entry = record { name = codes "p"; kind = Constant }
@@ -113,15 +60,19 @@ l_entry = record { name = codes "l"; kind = Formula formula_word.Lemma (Const (O
 abbrev entries : List Entry
 entries = p_entry ∷ l_entry ∷ []
 
--- every constant is FALSE
+built : forms.is_built_theory bytes small ≡ true
+built = ap (λ (b : Bool). b && (forms.is_built says_p && true)) (ap (forms.is_boolean bytes) (plain_type (word 19 23 20))) ∙ ap (λ (b : Bool). b && true) (built_name (word 33 34 34))
+
+read : entries_of bytes small.name.pos small.decls ≡ Ok entries
+read = ap (λ (r : Result Tree Fault). r >>= (λ t. Ok (named bytes (word 24 25 25) (Formula formula_word.Lemma t))) >>= (λ e. entries_after bytes small.name.pos (p_entry ∷ e ∷ []) [])) (core_name (word 33 34 34) bytes small.name.pos (p_entry ∷ []))
+
+accepted : theory_entries bytes [] small ≡ Ok entries
+accepted = ap (λ (b : Bool). if not b then Err (not_built small.name.pos) else once (first_repeated bytes [] small.decls) (entries_of bytes small.name.pos small.decls)) built ∙ read
+
+-- ---- Its lemma is printed open, and is FALSE where every constant is.
+
 abbrev nothing : Interpretation
 nothing r = false
-
-accepted : entries_of bytes declared ≡ Ok entries
-accepted = ap (λ (r : Result Tree Fault). r >>= (λ t. Ok (named bytes l2.word (Formula formula_word.Lemma t))) >>= (λ e. entries_after bytes (p_entry ∷ e ∷ []) [])) (core_name bytes (p_entry ∷ []) p3.word)
-
-printed : (r : Result (List Entry) Fault) → r ≡ Ok entries → Contains (theory_lines bytes p0.word [] r) (FormulaLine (codes "p") (codes "l") OpenWord)
-printed r e = subst (λ (q : Result (List Entry) Fault). Contains (theory_lines bytes p0.word [] q) (FormulaLine (codes "p") (codes "l") OpenWord)) (sym e) (1, omega arith, refl)
 
 no_axiom : Fits nothing entries 1
 no_axiom zero name t h e =
@@ -129,32 +80,37 @@ no_axiom zero name t h e =
     let kinds : Constant ≡ Formula formula_word.Axiom t = ap (λ (f : Entry). f.kind) same in cc
 no_axiom (suc i) name t h e = absurd (omega arith)
 
-abbrev lines : List Line
-lines = unit_lines bytes (Some small) []
+abbrev line : Line
+line = FormulaLine (codes "p") (codes "l") OpenWord
 
-open_line : Contains lines (FormulaLine (codes "p") (codes "l") OpenWord)
-open_line = printed (entries_of bytes declared) accepted
+printed : (r : Result (List Entry) Fault) → r ≡ Ok entries → Contains (parts_lines bytes (theory_part (codes "p") r ∷ [])) line
+printed r e = subst (λ (q : Result (List Entry) Fault). Contains (parts_lines bytes (theory_part (codes "p") q ∷ [])) line) (sym e) (1, omega arith, refl)
 
-open_and_false : (ls : List Line) → Contains ls (FormulaLine (codes "p") (codes "l") OpenWord) → IsOpenAndFalse bytes ls small entries 1 (codes "l") (Const (Own 0)) nothing
-open_and_false ls h = record { accepted = accepted; stated = refl; printed = h; fits = no_axiom; untrue = refl }
+open_line : Contains (unit_lines bytes whole.items) line
+open_line = printed (theory_entries bytes [] small) accepted
 
-pub open_can_be_false : OpenCanBeFalse
-open_can_be_false = (bytes, small, entries, 1, codes "l", Const (Own 0), nothing, open_and_false lines open_line)
-
--- the same of a whole report, where these are the tokens of the text
-pub reported_can_be_false : lexemes bytes ≡ Some tokens → ReportedCanBeFalse
-reported_can_be_false lexed = (
+-- a lemma that is printed open can be FALSE, where the text reads as the unit
+pub reported_can_be_false : IsAnswer bytes (Ok whole) → ReportedCanBeFalse
+reported_can_be_false reads = (
   bytes,
-  with_total lines,
+  with_total (unit_lines bytes whole.items),
   whole,
+  [],
+  [],
   small,
   entries,
   1,
   codes "l",
   Const (Own 0),
   nothing,
-  reads lexed,
+  reads,
   refl,
-  of_unit (omega arith) whole (reads lexed),
-  open_and_false (with_total lines) (Contains-append_left lines (TotalLine (totals_of lines) ∷ []) (FormulaLine (codes "p") (codes "l") OpenWord) open_line),
+  of_text (Ok whole) reads,
+  record {
+    accepted = accepted;
+    stated = refl;
+    printed = Contains-append_left (unit_lines bytes whole.items) (TotalLine (totals_of (unit_lines bytes whole.items)) ∷ []) line open_line;
+    fits = no_axiom;
+    untrue = refl;
+  },
 )

@@ -2,10 +2,10 @@
 use Rattle.std.proofs.Common.{◌≡◌, ◌∙◌, refl, sym, ap, subst, ◌==◌, Bool, true, false, if◌then◌else◌, List, [], ◌∷◌, map, length, Result, Ok, Err}
 use Rattle.pvs_base.specs.declared.code.Code.{Code}
 use Rattle.pvs_base.specs.declared.code.Code.TheVariants as code
-use Rattle.pvs_parser.specs.declared.tree.Step.{Step}
-use Rattle.pvs_parser.specs.declared.tree.Script.{Script}
-use Rattle.pvs_parser.specs.declared.tree.Script.TheOpen.{Script-F}
-use Rattle.pvs_parser.specs.declared.tree.Script.TheFolds.{fold-roll-Script, ind-Script}
+use Rattle.pvs_script.specs.declared.tree.Step.{Step}
+use Rattle.pvs_script.specs.declared.tree.Script.{Script}
+use Rattle.pvs_script.specs.declared.tree.Script.TheOpen.{Script-F}
+use Rattle.pvs_script.specs.declared.tree.Script.TheFolds.{fold-roll-Script, ind-Script}
 use Rattle.pvs_sem.specs.Truth.{Interpretation}
 use Rattle.pvs_sem.specs.Sequents.{Sequent, IsTrueSequent}
 use Rattle.pvs_cli.specs.Steps.{step}

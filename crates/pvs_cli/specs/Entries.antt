@@ -1,20 +1,20 @@
 -- The entries of a theory, and the core trees of its formulas.
-use Rattle.std.specs.Prelude.{◌&&◌, not, ℕ, ◌+◌, Bool, true, false, bytes_eq, map, if◌then◌else◌, List, [], ◌∷◌, ◌++◌, Option, Some, None, Result, Ok, Err}
-use Rattle.std.specs.List.{list_any}
+use Rattle.std.specs.Prelude.{◌&&◌, ℕ, ◌+◌, Bool, true, false, bytes_eq, if◌then◌else◌, List, [], ◌∷◌, ◌++◌, Option, Some, None, Result, Ok, Err, ⊤}
 use Rattle.pvs_base.specs.declared.place.Pos.{Pos}
 use Rattle.pvs_base.specs.declared.code.Fault.{Fault}
 use Rattle.pvs_base.specs.declared.code.Code.TheVariants as code
-use Rattle.pvs_parser.specs.declared.tree.Word.{Word}
-use Rattle.pvs_parser.specs.declared.tree.Expr.{Expr}
-use Rattle.pvs_parser.specs.declared.tree.Expr.TheOpen.{Expr-F}
-use Rattle.pvs_parser.specs.declared.tree.Expr.TheFolds.{fold-Expr}
-use Rattle.pvs_parser.specs.declared.tree.Decl.{Decl}
-use Rattle.pvs_parser.specs.declared.tree.Decl.TheVariants as decl
-use Rattle.pvs_parser.specs.declared.tree.FormulaWord.{FormulaWord}
-use Rattle.pvs_parser.specs.declared.tree.InfixWord.{InfixWord}
-use Rattle.pvs_parser.specs.declared.tree.InfixWord.TheVariants as infix_word
-use Rattle.pvs_parser.specs.Grammar.{spelling}
+use Rattle.pvs_syntax.specs.declared.word.Word.{Word}
+use Rattle.pvs_syntax.specs.declared.expression.Expr.{Expr}
+use Rattle.pvs_syntax.specs.declared.expression.InfixWord.{InfixWord}
+use Rattle.pvs_syntax.specs.declared.expression.InfixWord.TheVariants as infix_word
+use Rattle.pvs_syntax.specs.declared.expression.Actual.TheOpen.{Actual-F, Expr-F, TypeExpr-F, Binding-F, InstExpr-F, LetPart-F, NameExpr-F}
+use Rattle.pvs_syntax.specs.declared.expression.Actual.TheFolds.{fold-Expr}
+use Rattle.pvs_syntax.specs.declared.unit.Decl.{Decl}
+use Rattle.pvs_syntax.specs.declared.unit.Decl.TheVariants as decl
+use Rattle.pvs_syntax.specs.declared.unit.FormulaWord.{FormulaWord}
 use Rattle.pvs_terms.specs.Tree.{Tree, Own, True, False, Const, If}
+use Rattle.pvs_cli.specs.Names.{spelling}
+use Rattle.pvs_cli.specs.Forms.{plain}
 
 -- a boolean constant, or an axiom or a lemma with its formula
 pub data EntryKind : Type 0 where
@@ -32,15 +32,20 @@ abbrev pub ◌>>=◌ : {A B : Type 0} → Result A Fault → (A → Result B Fau
 (Ok x) >>= f = f x
 (Err e) >>= f = Err e
 
+-- the fault of a form that is not built: its place is that of the name of the theory
+abbrev pub not_built : Pos → Fault
+not_built at = record { pos = at; code = code.OutOfProfile }
+
 -- NOT a
 abbrev pub negation : Tree → Tree
 negation a = If a False True
 
--- a AND b, a OR b, a IMPLIES b
-abbrev pub connective : InfixWord → Tree → Tree → Tree
-connective infix_word.And a b = If a b False
-connective infix_word.Or a b = If a True b
-connective infix_word.Implies a b = If a b True
+-- a AND b, a OR b, a IMPLIES b, in a theory whose name has this place
+abbrev pub connective : Pos → InfixWord → Tree → Tree → Result Tree Fault
+connective at infix_word.And a b = Ok (If a b False)
+connective at infix_word.Or a b = Ok (If a True b)
+connective at infix_word.Implies a b = Ok (If a b True)
+connective at _ a b = Err (not_built at)
 
 abbrev pub is_constant_kind : EntryKind → Bool
 is_constant_kind Constant = true
@@ -64,51 +69,61 @@ abbrev pub constant : Pos → Option ℕ → Result Tree Fault
 constant at None = Err (record { pos = at; code = code.Unknown })
 constant at (Some n) = Ok (Const (Own n))
 
--- One node of an expression, with the trees or faults of its parts in their places. The first fault from the left counts.
-abbrev pub core_step : List ℕ → List Entry → Expr-F (Result Tree Fault) → Result Tree Fault
-core_step text es (Expr-F.Truth b) = Ok (if b then True else False)
-core_step text es (Expr-F.Name w) = constant w.pos (resolve es (spelling text w))
-core_step text es (Expr-F.Not x) = x >>= λ a. Ok (negation a)
-core_step text es (Expr-F.Infix o x y) = x >>= λ a. y >>= λ b. Ok (connective o a b)
-core_step text es (Expr-F.Cond c x y) = c >>= λ t. x >>= λ a. y >>= λ b. Ok (If t a b)
+-- the constant that a plain name stands for
+abbrev pub named_constant : List ℕ → Pos → List Entry → Option Word → Result Tree Fault
+named_constant text at es None = Err (not_built at)
+named_constant text at es (Some w) = constant w.pos (resolve es (spelling text w))
 
--- the core tree of an expression over these entries, or the first name that is unknown
-abbrev pub core : List ℕ → List Entry → Expr → Result Tree Fault
-core text es = fold-Expr (Result Tree Fault) (core_step text es)
+-- Each step gives of one layer of a tree, of an expression its core tree or the first fault from the left, and of a name the word where it is
+-- plain, where the same of its parts stands in place of them.
+abbrev pub Step : (Type 0 → Type 0 → Type 0 → Type 0 → Type 0 → Type 0 → Type 0 → Type 0) → Type 0 → Type 0
+Step F X = F ⊤ (Result Tree Fault) ⊤ ⊤ ⊤ ⊤ (Option Word) → X
+
+abbrev pub core_step : List ℕ → Pos → List Entry → Step Expr-F (Result Tree Fault)
+core_step text at es (Expr-F.Truth b pos) = Ok (if b then True else False)
+core_step text at es (Expr-F.NameTerm w) = named_constant text at es w
+core_step text at es (Expr-F.Paren x pos) = x
+core_step text at es (Expr-F.Cond c x y pos) = c >>= λ t. x >>= λ a. y >>= λ b. Ok (If t a b)
+core_step text at es (Expr-F.Not x pos) = x >>= λ a. Ok (negation a)
+core_step text at es (Expr-F.Infix o x y) = x >>= λ a. y >>= λ b. connective at o a b
+core_step text at es _ = Err (not_built at)
+
+abbrev pub name_step : Step NameExpr-F (Option Word)
+name_step n = plain n.qualifier n.word
+
+abbrev pub actual_step : Step Actual-F ⊤
+actual_step a = tt
+
+abbrev pub type_step : Step TypeExpr-F ⊤
+type_step a = tt
+
+abbrev pub binding_step : Step Binding-F ⊤
+binding_step b = tt
+
+abbrev pub inst_step : Step InstExpr-F ⊤
+inst_step i = tt
+
+abbrev pub part_step : Step LetPart-F ⊤
+part_step p = tt
+
+-- The core tree of an expression over these entries, or the first name that is unknown. Parentheses leave no trace.
+abbrev pub core : List ℕ → Pos → List Entry → Expr → Result Tree Fault
+core text at es = fold-Expr ⊤ (Result Tree Fault) ⊤ ⊤ ⊤ ⊤ (Option Word) actual_step (core_step text at es) type_step binding_step inst_step part_step name_step
 
 abbrev pub named : List ℕ → Word → EntryKind → Entry
 named text w kind = record { name = spelling text w; kind = kind }
 
 -- the entry of a declaration that follows these entries, or the first fault in it
-abbrev pub entry_of : List ℕ → List Entry → Decl → Result Entry Fault
-entry_of text es (decl.Constant w) = Ok (named text w Constant)
-entry_of text es (decl.Formula w word x) = core text es x >>= λ t. Ok (named text w (Formula word t))
+abbrev pub entry_of : List ℕ → Pos → List Entry → Decl → Result Entry Fault
+entry_of text at es (decl.ConstDecl w params ty body) = Ok (named text w Constant)
+entry_of text at es (decl.Formula w word x) = core text at es x >>= λ t. Ok (named text w (Formula word t))
+entry_of text at es _ = Err (not_built at)
 
 -- the entries of declarations that follow these entries, with these in front, or the first fault
-abbrev pub entries_after : List ℕ → List Entry → List Decl → Result (List Entry) Fault
-entries_after text es [] = Ok es
-entries_after text es (d ∷ ds) = entry_of text es d >>= λ e. entries_after text (es ++ e ∷ []) ds
+abbrev pub entries_after : List ℕ → Pos → List Entry → List Decl → Result (List Entry) Fault
+entries_after text at es [] = Ok es
+entries_after text at es (d ∷ ds) = entry_of text at es d >>= λ e. entries_after text at (es ++ e ∷ []) ds
 
 -- the entries of a theory, or the first fault in it
-abbrev pub entries_of : List ℕ → List Decl → Result (List Entry) Fault
-entries_of text ds = entries_after text [] ds
-
--- the names of the constants that are declared, and those of the formulas
-abbrev pub constant_words : List Decl → List Word
-constant_words [] = []
-constant_words (decl.Constant w ∷ ds) = w ∷ constant_words ds
-constant_words (decl.Formula w word x ∷ ds) = constant_words ds
-
-abbrev pub formula_words : List Decl → List Word
-formula_words [] = []
-formula_words (decl.Constant w ∷ ds) = formula_words ds
-formula_words (decl.Formula w word x ∷ ds) = w ∷ formula_words ds
-
--- whether no two of the names are the same
-abbrev pub are_distinct : List (List ℕ) → Bool
-are_distinct [] = true
-are_distinct (n ∷ ns) = not (list_any (bytes_eq n) ns) && are_distinct ns
-
--- whether no constant and no formula is declared twice
-abbrev pub declares_once : List ℕ → List Decl → Bool
-declares_once text ds = are_distinct (map (spelling text) (constant_words ds)) && are_distinct (map (spelling text) (formula_words ds))
+abbrev pub entries_of : List ℕ → Pos → List Decl → Result (List Entry) Fault
+entries_of text at ds = entries_after text at [] ds

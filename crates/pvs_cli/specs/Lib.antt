@@ -1,6 +1,9 @@
+pub mod Names
+pub mod Forms
 pub mod Outcomes
 pub mod Trees
 pub mod Entries
+pub mod Theories
 pub mod Sequents
 pub mod Shown
 pub mod Steps
@@ -15,5 +18,7 @@ pub mod Soundness
 pub mod Codes
 pub mod Output
 pub mod SoundFacts
+pub mod OpenExample
 pub mod Index
 pub mod LemmaIndex
+pub mod Going

@@ -4,10 +4,10 @@ use Rattle.pvs_base.specs.declared.place.Pos.{Pos}
 use Rattle.pvs_base.specs.declared.code.Fault.{Fault}
 use Rattle.pvs_base.specs.declared.code.Code.{Code}
 use Rattle.pvs_base.specs.declared.code.Code.TheVariants as code
-use Rattle.pvs_parser.specs.declared.tree.Step.{Step}
-use Rattle.pvs_parser.specs.declared.tree.Script.{Script}
-use Rattle.pvs_parser.specs.declared.tree.Script.TheOpen.{Script-F}
-use Rattle.pvs_parser.specs.declared.tree.Script.TheFolds.{fold-Script}
+use Rattle.pvs_script.specs.declared.tree.Step.{Step}
+use Rattle.pvs_script.specs.declared.tree.Script.{Script}
+use Rattle.pvs_script.specs.declared.tree.Script.TheOpen.{Script-F}
+use Rattle.pvs_script.specs.declared.tree.Script.TheFolds.{fold-Script}
 use Rattle.pvs_sem.specs.Sequents.{Sequent}
 use Rattle.pvs_cli.specs.Steps.{step}
 

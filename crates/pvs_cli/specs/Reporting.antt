@@ -1,32 +1,34 @@
 -- The report of a text.
-use Rattle.std.specs.Prelude.{◌≤◌, ◌<◌, ◌^◌, ℕ, codes, if◌then◌else◌, List, [], ◌∷◌, ◌++◌, length, Option, Some, None, Result, Ok, Err}
+use Rattle.std.specs.Prelude.{◌≡◌, ℕ, codes, List, [], ◌∷◌, ◌++◌, Result, Ok, Err}
 use Rattle.pvs_base.specs.declared.code.Fault.{Fault}
-use Rattle.pvs_base.specs.declared.code.Code.{Code}
-use Rattle.pvs_base.specs.declared.code.Code.TheVariants as code
-use Rattle.pvs_parser.specs.declared.tree.Word.{Word}
-use Rattle.pvs_parser.specs.declared.tree.Theory.{Theory}
-use Rattle.pvs_parser.specs.declared.tree.Proof.{Proof}
-use Rattle.pvs_parser.specs.declared.tree.Unit as unit
-use Rattle.pvs_parser.specs.declared.tree.FormulaWord.TheVariants as formula_word
-use Rattle.pvs_parser.specs.Grammar.{spelling}
-use Rattle.pvs_parser.specs.Text.{Reads}
-use Rattle.pvs_cli.specs.Entries.{Entry, EntryKind, Constant, Formula, entries_of, declares_once}
+use Rattle.pvs_syntax.specs.declared.unit.Proof.{Proof}
+use Rattle.pvs_syntax.specs.declared.unit.Item.{Item}
+use Rattle.pvs_syntax.specs.declared.unit.Unit as unit
+use Rattle.pvs_syntax.specs.declared.unit.FormulaWord.TheVariants as formula_word
+use Rattle.pvs_parser.specs.Text.{IsAnswer}
+use Rattle.pvs_cli.specs.Names.{FormulaName, spelling}
+use Rattle.pvs_cli.specs.Entries.{Entry, EntryKind, Constant, Formula}
+use Rattle.pvs_cli.specs.Theories.{Part, Accepted, Rejected, Proving, parts_of}
 use Rattle.pvs_cli.specs.Replaying.{Outcome, Proved, Open, Refused}
-use Rattle.pvs_cli.specs.Verdicts.{Status, Unproved, Complete, proved, status_of, verdict}
+use Rattle.pvs_cli.specs.Verdicts.{Status, Unproved, Complete, along, proved, status_of, verdict}
 use Rattle.pvs_cli.specs.Lines.{Line, TheoryLine, RefusedLine, FormulaLine, TotalLine, LineWord, AxiomWord, CompleteWord, OpenWord, UnitOf, TheoryOf, ProofOf, full_name, totals_of}
 
 abbrev pub status_word : Status → LineWord
 status_word Unproved = OpenWord
 status_word Complete = CompleteWord
 
--- the lines of an entry of a theory, where these formulas are proved: one for a formula, and none for a constant
-abbrev pub entry_lines : List ℕ → List (List ℕ) → List ℕ → EntryKind → List Line
-entry_lines theory names name Constant = []
+-- the word for a lemma, where these are proved
+abbrev pub lemma_word : List FormulaName → List ℕ → List ℕ → LineWord
+lemma_word names theory name = status_word (status_of names (record { theory = theory; formula = name }))
+
+-- the lines of an entry of a theory, where these formulas are proved: one for an axiom or a lemma
+abbrev pub entry_lines : List ℕ → List FormulaName → List ℕ → EntryKind → List Line
 entry_lines theory names name (Formula formula_word.Axiom t) = FormulaLine theory name AxiomWord ∷ []
-entry_lines theory names name (Formula formula_word.Lemma t) = FormulaLine theory name (status_word (status_of names name)) ∷ []
+entry_lines theory names name (Formula formula_word.Lemma t) = FormulaLine theory name (lemma_word names theory name) ∷ []
+entry_lines theory names name _ = []
 
 -- the lines of the formulas of a theory, in order
-abbrev pub formula_lines : List ℕ → List (List ℕ) → List Entry → List Line
+abbrev pub formula_lines : List ℕ → List FormulaName → List Entry → List Line
 formula_lines theory names [] = []
 formula_lines theory names (e ∷ es) = entry_lines theory names e.name e.kind ++ formula_lines theory names es
 
@@ -36,27 +38,28 @@ proof_line text p Proved = []
 proof_line text p (Open s) = []
 proof_line text p (Refused f) = RefusedLine ProofOf (full_name (spelling text p.theory) (spelling text p.formula)) f ∷ []
 
--- the lines of proofs that stand behind earlier ones
-abbrev pub proof_lines_after : List ℕ → Word → List Entry → List Proof → List Proof → List Line
-proof_lines_after text theory es earlier [] = []
-proof_lines_after text theory es earlier (p ∷ ps) = proof_line text p (verdict text theory es earlier p) ++ proof_lines_after text theory es (earlier ++ p ∷ []) ps
+-- the lines of a part of a unit, where these formulas are proved, and earlier proofs name those
+abbrev pub part_lines : List ℕ → List Part → List FormulaName → List FormulaName → Part → List Line
+part_lines text parts names earlier (Accepted theory es) = TheoryLine theory ∷ formula_lines theory names es
+part_lines text parts names earlier (Rejected theory f) = RefusedLine TheoryOf theory f ∷ []
+part_lines text parts names earlier (Proving p) = proof_line text p (verdict text parts earlier p)
 
-abbrev pub proof_lines : List ℕ → Word → List Entry → List Proof → List Line
-proof_lines text theory es ps = proof_lines_after text theory es [] ps
+-- the lines of the parts of a unit
+abbrev pub parts_lines : List ℕ → List Part → List Line
+parts_lines text parts = along text (part_lines text parts (proved text parts)) [] parts
 
--- the lines of a theory with its proofs: an accepted one, or one that is refused
-abbrev pub theory_lines : List ℕ → Word → List Proof → Result (List Entry) Fault → List Line
-theory_lines text theory ps (Ok es) = TheoryLine (spelling text theory) ∷ (formula_lines (spelling text theory) (proved text theory es ps) es ++ proof_lines text theory es ps)
-theory_lines text theory ps (Err f) = RefusedLine TheoryOf (spelling text theory) f ∷ proof_lines text theory [] ps
+-- the lines of a unit
+abbrev pub unit_lines : List ℕ → List Item → List Line
+unit_lines text items = parts_lines text (parts_of text items)
 
--- the line of a refused unit: its name is u, and its place the first of the text
-abbrev pub refused_unit : Code → List Line
-refused_unit why = RefusedLine UnitOf (codes "u") (record { pos = record { line = 1; col = 1 }; code = why }) ∷ []
+-- the line of a refused unit: its name is u
+abbrev pub refused_unit : Fault → List Line
+refused_unit f = RefusedLine UnitOf (codes "u") f ∷ []
 
--- the lines of a unit: a theory that declares something twice is no theory of the grammar
-abbrev pub unit_lines : List ℕ → Option Theory → List Proof → List Line
-unit_lines text None ps = []
-unit_lines text (Some t) ps = if declares_once text t.decls then theory_lines text t.name ps (entries_of text t.decls) else refused_unit code.OutOfProfile
+-- the lines of what a text reads as: a unit, or a first fault
+abbrev pub answer_lines : List ℕ → Result unit.Unit Fault → List Line
+answer_lines text (Ok u) = unit_lines text u.items
+answer_lines text (Err f) = refused_unit f
 
 -- the lines of a report up to the last, and the last
 abbrev pub with_total : List Line → List Line
@@ -64,6 +67,8 @@ with_total ls = ls ++ TotalLine (totals_of ls) ∷ []
 
 -- the report of a text, which is unit u
 pub data IsReport (text : List ℕ) : List Line → Type 0 where
-  too_long : 2 ^ 20 < length text → IsReport text (with_total (refused_unit code.TextTooLong))
-  no_unit : length text ≤ 2 ^ 20 → ((u : unit.Unit) → Reads text u → ⊥) → IsReport text (with_total (refused_unit code.OutOfProfile))
-  of_unit : length text ≤ 2 ^ 20 → (u : unit.Unit) → Reads text u → IsReport text (with_total (unit_lines text u.theory u.proofs))
+  of_text : (a : Result unit.Unit Fault) → IsAnswer text a → IsReport text (with_total (answer_lines text a))
+
+-- a text reads as one unit, or else it has one first fault
+abbrev pub OneAnswer : Type 0
+OneAnswer = (text : List ℕ) (a b : Result unit.Unit Fault) → IsAnswer text a → IsAnswer text b → a ≡ b

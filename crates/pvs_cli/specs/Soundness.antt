@@ -1,13 +1,16 @@
 -- What is printed complete is true.
-use Rattle.std.specs.Prelude.{◌≡◌, ◌<◌, ℕ, true, List, slice_get, Contains, ◌++◌, Option, Some, Ok, ⊤}
-use Rattle.pvs_parser.specs.declared.tree.Theory.{Theory}
-use Rattle.pvs_parser.specs.declared.tree.Unit as unit
-use Rattle.pvs_parser.specs.declared.tree.FormulaWord.TheVariants as formula_word
-use Rattle.pvs_parser.specs.Grammar.{spelling}
-use Rattle.pvs_parser.specs.Text.{Reads}
+use Rattle.std.specs.Prelude.{◌≡◌, ◌<◌, ℕ, true, List, [], ◌∷◌, ◌++◌, slice_get, Contains, Option, Some, Ok, ⊤}
+use Rattle.pvs_syntax.specs.declared.unit.Theory.{Theory}
+use Rattle.pvs_syntax.specs.declared.unit.Item.{Item}
+use Rattle.pvs_syntax.specs.declared.unit.Item.TheVariants as item
+use Rattle.pvs_syntax.specs.declared.unit.Unit as unit
+use Rattle.pvs_syntax.specs.declared.unit.FormulaWord.TheVariants as formula_word
+use Rattle.pvs_parser.specs.Text.{IsAnswer}
 use Rattle.pvs_terms.specs.Tree.{Tree}
 use Rattle.pvs_sem.specs.Truth.{Interpretation, truth}
-use Rattle.pvs_cli.specs.Entries.{Entry, Formula, entries_of}
+use Rattle.pvs_cli.specs.Names.{spelling}
+use Rattle.pvs_cli.specs.Entries.{Entry, Formula}
+use Rattle.pvs_cli.specs.Theories.{theory_entries}
 use Rattle.pvs_cli.specs.Lines.{Line, FormulaLine, CompleteWord, bytes_of}
 use Rattle.pvs_cli.specs.Output.{text_of}
 use Rattle.pvs_cli.specs.Reporting.{IsReport}
@@ -18,8 +21,8 @@ Fits m es x = (i : ℕ) (name : List ℕ) (t : Tree) → i < x → slice_get es 
 
 -- Each lemma of an accepted theory of the text that these lines print as complete is TRUE in every interpretation that fits the theory there.
 abbrev pub IsSound : List ℕ → List Line → Type 0
-IsSound text lines = (u : unit.Unit) (t : Theory) (es : List Entry) (x : ℕ) (name : List ℕ) (body : Tree) (m : Interpretation)
-    → Reads text u → u.theory ≡ Some t → entries_of text t.decls ≡ Ok es
+IsSound text lines = (u : unit.Unit) (before after : List Item) (t : Theory) (es : List Entry) (x : ℕ) (name : List ℕ) (body : Tree) (m : Interpretation)
+    → IsAnswer text (Ok u) → u.items ≡ before ++ item.Theory t ∷ after → theory_entries text before t ≡ Ok es
     → slice_get es x ≡ Some (record { name = name; kind = Formula formula_word.Lemma body })
     → Contains lines (FormulaLine (spelling text t.name) name CompleteWord)
     → Fits m es x → truth m body ≡ true

@@ -3,8 +3,8 @@ use Rattle.std.specs.Prelude.{◌||◌, not, zero, suc, ℤ, pos, negsuc, Bool, 
 use Rattle.std.specs.List.{list_any}
 use Rattle.pvs_base.specs.declared.code.Code.{Code}
 use Rattle.pvs_base.specs.declared.code.Code.TheVariants as code
-use Rattle.pvs_parser.specs.declared.tree.Rule.{Rule}
-use Rattle.pvs_parser.specs.declared.tree.Rule.TheVariants as rule
+use Rattle.pvs_script.specs.declared.tree.Rule.{Rule}
+use Rattle.pvs_script.specs.declared.tree.Rule.TheVariants as rule
 use Rattle.pvs_cli.specs.declared.sequent.Place.{Place}
 use Rattle.pvs_cli.specs.declared.sequent.Place.TheVariants as place
 use Rattle.pvs_terms.specs.Tree.{Tree, True, False, If, tree_eq}

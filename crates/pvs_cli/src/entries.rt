@@ -2,19 +2,20 @@
 
 ghost use Rattle.std.specs.Prelude.{◌≡◌, ℕ, List, [], ◌∷◌, ◌++◌, Some, None, if◌then◌else◌, IfOk, OnOk};
 ghost use Rattle.std.specs.Option.{option_or};
-ghost use Rattle.pvs_parser.specs.Grammar.{spelling};
 ghost use Rattle.pvs_terms.specs.Tree.{If};
 ghost use Rattle.pvs_cli.specs.Trees.{tree_of};
 ghost use Rattle.pvs_cli.specs.Outcomes.{GivesElab};
-ghost use Rattle.pvs_cli.specs.Entries.{connective, constant, core, entries_of, entry_of, is_constant, is_constant_kind, resolve};
+ghost use Rattle.pvs_cli.specs.Entries.{connective, core, entries_of, entry_of, is_constant, is_constant_kind, named_constant, not_built, resolve};
 ghost use Rattle.pvs_cli.specs.Index.{Indexes, value_of};
 ghost use Rattle.pvs_cli.specs.Shown.{entries_shown, entry_shown, kind_shown};
 
 use crate::fault::ElabFault;
+use crate::forms::plain_name;
 use crate::index::Index;
+use crate::names::spelling_of;
 use crate::tree::Tree;
-use pvs_base::{Code, Fault};
-use pvs_parser::{Decl, Expr, FormulaWord, InfixWord, Word, spelling_of};
+use pvs_base::{Code, Fault, Pos};
+use pvs_syntax::{Decl, Expr, FormulaWord, InfixWord, Word};
 use sqlite_items::Boxed;
 use std::alloc::{AllocError, Global};
 
@@ -42,10 +43,13 @@ fn is_constant(kind: &EntryKind) -> bool
     matches!(kind, EntryKind::Constant)
 }
 
-/// The entries of a text so far, and the numbers of the constants among them.
+/// The entries of a theory so far, and the numbers of the constants among them.
 #[derive(Drop)]
 struct Scope<'a> {
     text: &'a [u8],
+
+    /// The place of the theory's name.
+    at: Pos,
     entries: Vec<Entry>,
     constants: Index<'a, usize>,
     ghost numbered: { Indexes constants (resolve (entries_shown text.now entries.items)) },
@@ -53,12 +57,14 @@ struct Scope<'a> {
 
 impl<'a> Scope<'a> {
     /// No entries.
-    fn new(alloc: Global, text: &'a [u8]) -> Self
+    fn new(alloc: Global, text: &'a [u8], at: Pos) -> Self
         ensures text { result.text.now ≡ text.now }
+        ensures at { result.at ≡ at }
         ensures none { result.entries.items ≡ [] }
     {
         Scope {
             text,
+            at,
             entries: Vec::new(alloc),
             constants: Index::new(alloc),
         }
@@ -67,6 +73,7 @@ impl<'a> Scope<'a> {
     /// The entries with one more.
     fn with(mut self, entry: Entry) -> Result<Self, AllocError>
         ensures text { IfOk result (λ s. s.text.now ≡ self.entry.text.now) }
+        ensures at { IfOk result (λ s. s.at ≡ self.entry.at) }
         ensures entries { IfOk result (λ s. s.entries.items ≡ self.entry.entries.items ++ entry ∷ []) }
     {
         let text = self.text;
@@ -93,6 +100,16 @@ fn add_entry<'a>(
     Ok(())
 }
 
+/// The fault of a form that is not built, in a theory whose name has this place.
+pub fn not_built(at: Pos) -> Fault
+    ensures { result ≡ not_built at }
+{
+    Fault {
+        pos: at,
+        code: Code::OutOfProfile,
+    }
+}
+
 /// A conditional.
 fn conditional(alloc: Global, c: Tree, a: Tree, b: Tree) -> Result<Tree, AllocError>
     ensures { IfOk result (λ t. tree_of t ≡ If (tree_of c) (tree_of a) (tree_of b)) }
@@ -104,52 +121,59 @@ fn conditional(alloc: Global, c: Tree, a: Tree, b: Tree) -> Result<Tree, AllocEr
     ))
 }
 
-/// AND, OR or IMPLIES of two terms.
-fn connective(alloc: Global, word: InfixWord, a: Tree, b: Tree) -> Result<Tree, AllocError>
-    ensures { IfOk result (λ t. tree_of t ≡ connective word (tree_of a) (tree_of b)) }
+/// AND, OR or IMPLIES of two terms, in a theory whose name has this place.
+fn connective(alloc: Global, at: Pos, word: InfixWord, a: Tree, b: Tree) -> Result<Tree, ElabFault>
+    ensures { GivesElab tree_of result (connective at word (tree_of a) (tree_of b)) }
 {
     match word {
-        InfixWord::And => conditional(alloc, a, b, Tree::False),
-        InfixWord::Or => conditional(alloc, a, Tree::True, b),
-        InfixWord::Implies => conditional(alloc, a, b, Tree::True),
+        InfixWord::And => Ok(conditional(alloc, a, b, Tree::False)?),
+        InfixWord::Or => Ok(conditional(alloc, a, Tree::True, b)?),
+        InfixWord::Implies => Ok(conditional(alloc, a, b, Tree::True)?),
+        _ => Err(ElabFault::At(not_built(at))),
     }
 }
 
-/// The core tree of an expression over the entries of a scope, or the first name in it that is Unknown.
+/// The core tree of an expression over the entries of a scope, or the first name in it that is
+/// Unknown.
 fn core(alloc: Global, scope: &Scope<'_>, expr: &Expr) -> Result<Tree, ElabFault>
-    ensures { GivesElab tree_of result (core scope.now.text.now (entries_shown scope.now.text.now scope.now.entries.items) expr.now) }
+    ensures { GivesElab tree_of result (core scope.now.text.now scope.now.at (entries_shown scope.now.text.now scope.now.entries.items) expr.now) }
 {
     match expr {
-        Expr::Truth(truth) => {
+        Expr::Truth(truth, _) => {
             if *truth {
                 Ok(Tree::True)
             } else {
                 Ok(Tree::False)
             }
         }
-        Expr::Name(word) => constant(scope, *word),
-        Expr::Not(operand) => {
+        Expr::NameTerm(name) => constant(scope, plain_name(name)),
+        Expr::Paren(inner, _) => core(alloc, scope, inner.get()),
+        Expr::Cond(condition, left, right, _) => {
+            let c = core(alloc, scope, condition.get())?;
+            let a = core(alloc, scope, left.get())?;
+            let b = core(alloc, scope, right.get())?;
+            Ok(conditional(alloc, c, a, b)?)
+        }
+        Expr::Not(operand, _) => {
             let a = core(alloc, scope, operand.get())?;
             Ok(conditional(alloc, a, Tree::False, Tree::True)?)
         }
         Expr::Infix(word, left, right) => {
             let a = core(alloc, scope, left.get())?;
             let b = core(alloc, scope, right.get())?;
-            Ok(connective(alloc, *word, a, b)?)
+            connective(alloc, scope.at, *word, a, b)
         }
-        Expr::Cond(condition, left, right) => {
-            let c = core(alloc, scope, condition.get())?;
-            let a = core(alloc, scope, left.get())?;
-            let b = core(alloc, scope, right.get())?;
-            Ok(conditional(alloc, c, a, b)?)
-        }
+        _ => Err(ElabFault::At(not_built(scope.at))),
     }
 }
 
-/// The constant that a word names, or Unknown at the word.
-fn constant(scope: &Scope<'_>, word: Word) -> Result<Tree, ElabFault>
-    ensures { GivesElab tree_of result (constant word.pos (resolve (entries_shown scope.now.text.now scope.now.entries.items) (spelling scope.now.text.now word))) }
+/// The constant that a plain name stands for, or Unknown at the name.
+fn constant(scope: &Scope<'_>, word: Option<Word>) -> Result<Tree, ElabFault>
+    ensures { GivesElab tree_of result (named_constant scope.now.text.now scope.now.at (entries_shown scope.now.text.now scope.now.entries.items) word) }
 {
+    let Some(word) = word else {
+        return Err(ElabFault::At(not_built(scope.at)));
+    };
     match scope.constants.find(spelling_of(scope.text, &word)) {
         Some(number) => Ok(Tree::Constant(number)),
         None => Err(ElabFault::At(Fault {
@@ -161,28 +185,30 @@ fn constant(scope: &Scope<'_>, word: Word) -> Result<Tree, ElabFault>
 
 /// The entry of a declaration that stands behind the entries of a scope, or the first fault in it.
 fn make_entry(alloc: Global, scope: &Scope<'_>, decl: &Decl) -> Result<Entry, ElabFault>
-    ensures { GivesElab (entry_shown scope.now.text.now) result (entry_of scope.now.text.now (entries_shown scope.now.text.now scope.now.entries.items) decl.now) }
+    ensures { GivesElab (entry_shown scope.now.text.now) result (entry_of scope.now.text.now scope.now.at (entries_shown scope.now.text.now scope.now.entries.items) decl.now) }
 {
     match decl {
-        Decl::Constant(word) => Ok(Entry {
-            name: *word,
+        Decl::ConstDecl { name, .. } => Ok(Entry {
+            name: *name,
             kind: EntryKind::Constant,
         }),
-        Decl::Formula(word, formula_word, body) => {
+        Decl::Formula { name, word, body } => {
             let tree = core(alloc, scope, body)?;
             Ok(Entry {
-                name: *word,
-                kind: EntryKind::Formula(*formula_word, tree),
+                name: *name,
+                kind: EntryKind::Formula(*word, tree),
             })
         }
+        _ => Err(ElabFault::At(not_built(scope.at))),
     }
 }
 
-/// The entries of declarations, or the first fault in them.
-pub fn entries(alloc: Global, text: &[u8], decls: &[Decl]) -> Result<Vec<Entry>, ElabFault>
-    ensures { GivesElab (λ v. entries_shown text.now v.items) result (entries_of text.now decls.now) }
+/// The entries of the declarations of a theory whose name has this place, or the first fault in
+/// them.
+pub fn entries(alloc: Global, text: &[u8], at: Pos, decls: &[Decl]) -> Result<Vec<Entry>, ElabFault>
+    ensures { GivesElab (λ v. entries_shown text.now v.items) result (entries_of text.now at decls.now) }
 {
-    let mut scope = Scope::new(alloc, text);
+    let mut scope = Scope::new(alloc, text, at);
     for decl in decls {
         let next = make_entry(alloc, &scope, decl)?;
         scope = scope.with(next)?;

@@ -6,6 +6,7 @@ mod distinct;
 mod entries;
 mod fact;
 mod fault;
+mod forms;
 mod index;
 mod input;
 mod lines;
@@ -19,6 +20,7 @@ mod status;
 mod step;
 #[cfg(test)]
 mod tests;
+mod theories;
 mod tree;
 mod verdict;
 

@@ -10,7 +10,7 @@ use crate::fault::RuleFault;
 use crate::sequent::Sequent;
 use crate::step::step;
 use pvs_base::{Code, Fault, Pos};
-use pvs_parser::{Script, Step};
+use pvs_script::{Script, Step};
 use std::alloc::{AllocError, Global};
 
 /// What the replay of a script comes to.

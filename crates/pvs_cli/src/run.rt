@@ -14,6 +14,7 @@ use crate::output::give_all;
 use crate::report::make_report;
 use crate::status::Status;
 use pvs_io::{Files, Sink, Source};
+use pvs_parser::one_answer;
 use std::alloc::Global;
 
 /// Whether a word is check.
@@ -54,6 +55,8 @@ fn write_report<K: Sink>(alloc: Global, text: &[u8], sink: &mut K) -> Status
     ensures front { (bytes : List ℕ) (end : Status) → IsReportOf text.now bytes end → AddsFront (K.written sink.old) (K.written sink.new) bytes }
     ensures cause { HasCause (K.faults sink.old) (K.faults sink.new) (result ≡ Status.OutputFault) }
 {
+    // A text has one report, since it has one answer.
+    one_answer();
     let Ok(report) = make_report(alloc, text) else {
         return Status::Memory;
     };
@@ -122,6 +125,8 @@ pub fn run<F: Files, S: Source, K: Sink>(
     ensures untouched { ¬ IsCheck (map (λ w. w.now) words.now) → (S.left src.new ≡ S.left src.old) × (S.faults src.new ≡ S.faults src.old) }
     ensures files { files.new ≡ files.old }
 {
+    // What a report says of the unit of a text, it says of the one unit.
+    one_answer();
     if is_check(words) {
         check(alloc, src, sink)
     } else {

@@ -10,7 +10,7 @@ use crate::fault::RuleFault;
 use crate::sequent::{Place, Sequent, place_of};
 use crate::tree::Tree;
 use pvs_base::Code;
-use pvs_parser::Rule;
+use pvs_script::Rule;
 use std::alloc::{AllocError, Global};
 
 /// Adds a premise, unless the rule axiom closes it.

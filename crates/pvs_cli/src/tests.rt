@@ -272,7 +272,10 @@ fn assert_report(
 
 const NOTHING: &str = "total complete 0 incomplete 0 open 0 refused 0\n";
 
-const NO_UNIT: &str = "unit u refused 1:1 OutOfProfile\n\
+const PARENTHESES: &str = "unit u refused 1:2 Unexpected\n\
+    total complete 0 incomplete 0 open 0 refused 1\n";
+
+const TOO_NESTED: &str = "unit u refused 1:234 TooNested\n\
     total complete 0 incomplete 0 open 0 refused 1\n";
 
 const TOO_LONG: &str = "unit u refused 1:1 TextTooLong\n\
@@ -301,7 +304,8 @@ fn reports(rt: HostRuntime) -> Result<(), Fail> {
         (
             "b: THEORY\nBEGIN\np, q: [bool -> bool]\nl: LEMMA (p AND q) IMPLIES (q AND p)\nEND b\n\
              (proof b.l ((if 1) (if -1) (if 1)))\n",
-            NO_UNIT,
+            "theory b refused 1:1 OutOfProfile\nproof b.l refused 6:8 NoSuchFormula\n\
+             total complete 0 incomplete 0 open 0 refused 2\n",
             Status::Unfinished,
         ),
         (
@@ -340,6 +344,14 @@ fn reports(rt: HostRuntime) -> Result<(), Fail> {
              (proof t.l ((if 1) (if 1)))",
             "theory t\nt.l complete\ntotal complete 1 incomplete 0 open 0 refused 0\n",
             Status::Clean,
+        ),
+        (
+            "b: THEORY\nBEGIN\np, q: bool;\nl: THEOREM p /\\ q => q & p;\n\
+             m: CLAIM IF p THEN p ELSIF q THEN q ELSE NOT (p \\/ q) ENDIF\nx: POSTULATE p\nEND b\n\
+             (proof b.l ((if 1) (if -1) (if 1)))\n",
+            "theory b\nb.l complete\nb.m open\nb.x axiom\n\
+             total complete 1 incomplete 0 open 1 refused 0\n",
+            Status::Unfinished,
         ),
     ] {
         assert_report(&rt, rt.alloc(), text, report, status)?;
@@ -396,60 +408,233 @@ fn places(rt: HostRuntime) -> Result<(), Fail> {
     Ok(())
 }
 
+/// The line of a unit that is refused at a place with a code, and the total.
+fn refused_unit(alloc: Global, fault: &str) -> Result<String, AllocError> {
+    let line = joined(alloc, "unit u refused ", fault)?;
+    joined(
+        alloc,
+        &line,
+        "\ntotal complete 0 incomplete 0 open 0 refused 1\n",
+    )
+}
+
 #[test]
 fn texts_that_are_no_unit(rt: HostRuntime) -> Result<(), Fail> {
-    for text in [
-        "\0",
-        "?",
-        "\"",
-        "b",
-        "é: THEORY BEGIN END é",
-        "t: THEORY BEGIN\x0bEND t",
-        "t: THEORY BEGIN END c",
-        "t: THEORY BEGIN END T",
-        "t: THEORY BEGIN END t u: THEORY BEGIN END u",
-        "t: THEORY BEGIN if: bool END t",
-        "t: THEORY BEGIN p: Bool END t",
-        "t: THEORY BEGIN p: bool; END t",
-        "t: THEORY BEGIN p: bool = TRUE END t",
-        "t: THEORY BEGIN p, p: bool END t",
-        "t: THEORY BEGIN p: bool l: LEMMA p l: AXIOM p END t",
-        "t: THEORY BEGIN p: bool l: LEMMA (p END t",
-        "t: THEORY BEGIN p: bool l: LEMMA p = p END t",
-        "t: THEORY BEGIN p: bool l: LEMMA p & p END t",
-        "t: THEORY BEGIN p: bool l: LEMMA IF p THEN p ELSIF p THEN p ELSE p ENDIF END t",
-        "(proof t.l ((axiom)))",
-        "t: THEORY BEGIN l: LEMMA TRUE END t (PROOF t.l ((axiom)))",
-        "t: THEORY BEGIN l: LEMMA TRUE END t (proof t.l ())",
-        "t: THEORY BEGIN l: LEMMA TRUE END t (proof t.l (axiom))",
-        "t: THEORY BEGIN l: LEMMA TRUE END t (proof t.l ((axiom 1)))",
-        "t: THEORY BEGIN l: LEMMA TRUE END t (proof t.l ((AXIOM)))",
-        "t: THEORY BEGIN l: LEMMA TRUE END t (proof t.l ((IF 1)))",
-        "t: THEORY BEGIN l: LEMMA TRUE END t (proof t.l ((if)))",
-        "t: THEORY BEGIN l: LEMMA TRUE END t (proof t.l ((if 1 2)))",
-        "t: THEORY BEGIN l: LEMMA TRUE END t (proof t.l ((if +1)))",
-        "t: THEORY BEGIN l: LEMMA TRUE END t (proof t.l ((if \"1\")))",
-        "t: THEORY BEGIN l: LEMMA TRUE END t (proof t.l ((axiom)) x)",
-    ] {
-        assert_report(&rt, rt.alloc(), text, NO_UNIT, Status::Unfinished)?;
-    }
-    for (name, text, report, status) in [
+    for (text, fault) in [
+        (b"\0".as_slice(), "1:1 BadByte"),
+        (b"\xff\xfe", "1:1 BadByte"),
+        (b"\"", "1:1 UnclosedQuote"),
+        (b"b", "1:2 Unexpected"),
+        (b"t: THEORY BEGIN\x0bEND t", "1:16 BadByte"),
+        (b"t: THEORY BEGIN END T", "1:21 WrongEnd"),
+        (b"t: THEORY BEGIN if: bool END t", "1:17 Unexpected"),
+        (b"t: THEORY BEGIN p: bool = 1 END t", "1:27 OutOfProfile"),
         (
-            "no UTF-8",
-            b"\xff\xfe".as_slice(),
-            NO_UNIT,
+            b"t: THEORY BEGIN\nEND t\n(PROOF t.l ((axiom)))",
+            "3:2 Unexpected",
+        ),
+        (
+            b"t: THEORY BEGIN\nEND t\n(proof t.l ((axiom)) x)",
+            "3:22 Unexpected",
+        ),
+    ] {
+        let report = refused_unit(rt.alloc(), fault)?;
+        assert_bytes(&rt, rt.alloc(), fault, text, &report, Status::Unfinished)?;
+    }
+    let comment = b"%\xff\0\xc3".as_slice();
+    assert_bytes(
+        &rt,
+        rt.alloc(),
+        "no UTF-8 in a comment",
+        comment,
+        NOTHING,
+        Status::Clean,
+    )
+}
+
+/// Declarations of forms that are not built yet, and theories that have other forms.
+#[test]
+fn forms_that_are_not_built(rt: HostRuntime) -> Result<(), Fail> {
+    let report = "theory t refused 2:1 OutOfProfile\n\
+        total complete 0 incomplete 0 open 0 refused 1\n";
+    for text in [
+        "\nt[T: TYPE]: THEORY BEGIN END t",
+        "\nt: THEORY BEGIN ASSUMING a: ASSUMPTION TRUE ENDASSUMING END t",
+        "\nt: THEORY BEGIN IMPORTING t END t",
+        "\nt: THEORY BEGIN T: TYPE END t",
+        "\nt: THEORY BEGIN T: TYPE = bool END t",
+        "\nt: THEORY BEGIN x: VAR bool END t",
+        "\nt: THEORY BEGIN p: Bool END t",
+        "\nt: THEORY BEGIN p: [bool -> bool] END t",
+        "\nt: THEORY BEGIN p: t.bool END t",
+        "\nt: THEORY BEGIN p: bool = TRUE END t",
+        "\nt: THEORY BEGIN p(x: bool): bool END t",
+        "\nt: THEORY BEGIN p: bool l: LEMMA p = p END t",
+        "\nt: THEORY BEGIN p: bool l: LEMMA p /= p END t",
+        "\nt: THEORY BEGIN p: bool l: LEMMA p IFF p END t",
+        "\nt: THEORY BEGIN p: bool l: LEMMA TRUE AND (FORALL (x: bool): p) END t",
+        "\nt: THEORY BEGIN p: bool l: LEMMA NOT (LET x = p IN p) END t",
+        "\nt: THEORY BEGIN p: bool l: LEMMA IF p THEN p ELSE p(p) ENDIF END t",
+        "\nt: THEORY BEGIN p: bool l: LEMMA IF p THEN p`1 ELSE p ENDIF END t",
+        "\nt: THEORY BEGIN p: bool l: LEMMA IF (p, p) THEN p ELSE p ENDIF END t",
+        "\nt: THEORY BEGIN p: bool l: LEMMA t.p END t",
+        // It comes before a name that is declared again, and before one that is unknown.
+        "\nt: THEORY BEGIN p, p: bool l: LEMMA q l: AXIOM q IFF q END t",
+    ] {
+        assert_report(&rt, rt.alloc(), text, report, Status::Unfinished)?;
+    }
+    Ok(())
+}
+
+#[test]
+fn names_that_are_declared_again(rt: HostRuntime) -> Result<(), Fail> {
+    for (text, report) in [
+        (
+            "t: THEORY\nBEGIN\np, q: bool\nq: bool\nEND t\n",
+            "theory t refused 4:1 Duplicate\ntotal complete 0 incomplete 0 open 0 refused 1\n",
+        ),
+        (
+            "t: THEORY\nBEGIN\np: bool\nl: LEMMA p\nl: AXIOM p\nEND t\n",
+            "theory t refused 5:1 Duplicate\ntotal complete 0 incomplete 0 open 0 refused 1\n",
+        ),
+        // The first of them, and before a name that is unknown.
+        (
+            "t: THEORY\nBEGIN\nl: LEMMA q\np, p: bool\nl: LEMMA p\nEND t\n",
+            "theory t refused 4:4 Duplicate\ntotal complete 0 incomplete 0 open 0 refused 1\n",
+        ),
+        (
+            "t: THEORY\nBEGIN\na: LEMMA q\nl: LEMMA TRUE\nl: LEMMA p\np, p: bool\nEND t\n",
+            "theory t refused 5:1 Duplicate\ntotal complete 0 incomplete 0 open 0 refused 1\n",
+        ),
+    ] {
+        assert_report(&rt, rt.alloc(), text, report, Status::Unfinished)?;
+    }
+    Ok(())
+}
+
+#[test]
+fn several_theories(rt: HostRuntime) -> Result<(), Fail> {
+    for (text, report, status) in [
+        (
+            "a: THEORY\nBEGIN\np: bool\nEND a\nb: THEORY\nBEGIN\nl: LEMMA TRUE\nEND b\n\
+             (proof b.l ((axiom)))\n",
+            "theory a\ntheory b\nb.l complete\ntotal complete 1 incomplete 0 open 0 refused 0\n",
+            Status::Clean,
+        ),
+        // Each theory has names of its own.
+        (
+            "a: THEORY BEGIN p: bool l: LEMMA p END a b: THEORY BEGIN q: bool l: LEMMA p END b",
+            "theory a\na.l open\ntheory b refused 1:75 Unknown\n\
+             total complete 0 incomplete 0 open 1 refused 1\n",
+            Status::Unfinished,
+        ),
+        // Of theories of one name only the first can be accepted.
+        (
+            "t: THEORY BEGIN l: LEMMA TRUE END t\nt: THEORY BEGIN m: LEMMA TRUE END t\n\
+             (proof t.m ((axiom)))\n(proof t.l ((axiom)))",
+            "theory t\nt.l complete\ntheory t refused 2:1 Duplicate\n\
+             proof t.m refused 3:8 NoSuchFormula\n\
+             total complete 1 incomplete 0 open 0 refused 2\n",
             Status::Unfinished,
         ),
         (
-            "no UTF-8 in a comment",
-            b"%\xff\0\xc3".as_slice(),
-            NOTHING,
-            Status::Clean,
+            "t: THEORY BEGIN l: LEMMA q END t\nt: THEORY BEGIN l: LEMMA TRUE END t\n\
+             (proof t.l ((axiom)))",
+            "theory t refused 1:26 Unknown\ntheory t refused 2:1 Duplicate\n\
+             proof t.l refused 3:8 NoSuchFormula\n\
+             total complete 0 incomplete 0 open 0 refused 3\n",
+            Status::Unfinished,
+        ),
+        // The name of the theory comes before the names in it, and behind its forms.
+        (
+            "t: THEORY BEGIN END t\nt: THEORY BEGIN p, p: bool END t\n\
+             t: THEORY BEGIN T: TYPE END t",
+            "theory t\ntheory t refused 2:1 Duplicate\ntheory t refused 3:1 OutOfProfile\n\
+             total complete 0 incomplete 0 open 0 refused 2\n",
+            Status::Unfinished,
         ),
     ] {
-        assert_bytes(&rt, rt.alloc(), name, text, report, status)?;
+        assert_report(&rt, rt.alloc(), text, report, status)?;
     }
     Ok(())
+}
+
+#[test]
+fn proofs_before_their_theories(rt: HostRuntime) -> Result<(), Fail> {
+    for (text, report, status) in [
+        (
+            "(proof t.l ((axiom)))\nt: THEORY BEGIN l: LEMMA TRUE END t",
+            "theory t\nt.l complete\ntotal complete 1 incomplete 0 open 0 refused 0\n",
+            Status::Clean,
+        ),
+        // The line of a refused proof stands at its place, and the second proof of a lemma is
+        // refused.
+        (
+            "(proof t.l ((if 1)))\ns: THEORY BEGIN END s\n(proof t.l ((axiom)))\n\
+             t: THEORY BEGIN l: LEMMA TRUE m: LEMMA TRUE END t\n(proof t.m ((axiom)))",
+            "proof t.l refused 1:13 NotApplicable\ntheory s\nproof t.l refused 3:8 NoSuchFormula\n\
+             theory t\nt.l open\nt.m complete\ntotal complete 1 incomplete 0 open 1 refused 2\n",
+            Status::Unfinished,
+        ),
+        (
+            "(proof t.l ((axiom)))",
+            "proof t.l refused 1:8 NoSuchFormula\ntotal complete 0 incomplete 0 open 0 refused 1\n",
+            Status::Unfinished,
+        ),
+        // Formulas of one name in two theories.
+        (
+            "(proof b.l ((axiom)))\na: THEORY BEGIN l: LEMMA TRUE END a\n\
+             b: THEORY BEGIN l: LEMMA TRUE END b\n(proof b.a ((axiom)))",
+            "theory a\na.l open\ntheory b\nb.l complete\nproof b.a refused 4:8 NoSuchFormula\n\
+             total complete 1 incomplete 0 open 1 refused 1\n",
+            Status::Unfinished,
+        ),
+    ] {
+        assert_report(&rt, rt.alloc(), text, report, status)?;
+    }
+    Ok(())
+}
+
+/// Scripts that are none, each of a proof that begins at line 2, column 1, with the place of its
+/// fault.
+#[test]
+fn scripts_that_are_none(rt: HostRuntime) -> Result<(), Fail> {
+    for (script, place) in [
+        ("()", "2:13"),
+        ("(axiom)", "2:13"),
+        ("((axiom 1))", "2:20"),
+        ("((AXIOM))", "2:14"),
+        ("((IF 1))", "2:14"),
+        ("((if))", "2:16"),
+        ("((if 1 2))", "2:19"),
+        ("((if +1))", "2:17"),
+        ("((if \"1\"))", "2:17"),
+        ("((lemma \"l\") (axiom))", "2:14"),
+        ("((if 1)\n((cut \"p\")))", "3:3"),
+    ] {
+        let begin = joined(
+            rt.alloc(),
+            "t: THEORY BEGIN l: LEMMA TRUE END t\n(proof t.l ",
+            script,
+        )?;
+        let text = joined(rt.alloc(), &begin, ")")?;
+        let line = joined(rt.alloc(), "theory t\nt.l open\nproof t.l refused ", place)?;
+        let report = joined(
+            rt.alloc(),
+            &line,
+            " OutOfProfile\ntotal complete 0 incomplete 0 open 1 refused 1\n",
+        )?;
+        assert_report(&rt, rt.alloc(), &text, &report, Status::Unfinished)?;
+    }
+    // No lemma of the name comes first.
+    assert_report(
+        &rt,
+        rt.alloc(),
+        "t: THEORY BEGIN a: AXIOM TRUE END t\n(proof t.a ((rule)))\n",
+        "theory t\nt.a axiom\nproof t.a refused 2:8 NoSuchFormula\n\
+         total complete 0 incomplete 0 open 0 refused 1\n",
+        Status::Unfinished,
+    )
 }
 
 const THEORY: &str = "b: THEORY
@@ -589,7 +774,7 @@ fn long_texts(rt: HostRuntime) -> Result<(), Fail> {
         (b' ', 1 << 20, NOTHING, Status::Clean),
         (b' ', (1 << 20) + 1, TOO_LONG, Status::Unfinished),
         (b' ', (1 << 20) + 4096, TOO_LONG, Status::Unfinished),
-        (b'(', 1 << 20, NO_UNIT, Status::Unfinished),
+        (b'(', 1 << 20, PARENTHESES, Status::Unfinished),
     ] {
         let text = vec![in rt.alloc(); byte; len]?;
         let went = outcome(rt.alloc(), &["check"], &text, 4096, None, 4096, None)?;
@@ -607,7 +792,7 @@ fn nesting(rt: HostRuntime) -> Result<(), Fail> {
             200,
             "theory t\nt.l open\ntotal complete 0 incomplete 0 open 1 refused 0\n",
         ),
-        (201, NO_UNIT),
+        (201, TOO_NESTED),
     ] {
         let mut text = String::from_str(rt.alloc(), "t: THEORY BEGIN p: bool l: LEMMA ")?;
         for _ in 0..depth {

@@ -1,26 +1,30 @@
 //! What becomes of proofs.
 
-ghost use Rattle.std.specs.Prelude.{◌≡◌, ℕ, List, [], ◌∷◌, ◌++◌, IfOk, OnOk};
+ghost use Rattle.std.specs.Prelude.{◌≡◌, ◌≤◌, ◌^◌, List, [], ◌∷◌, length, IfOk, OnOk};
 ghost use Rattle.std.specs.Option.{option_map};
-ghost use Rattle.pvs_parser.specs.declared.tree.Proof as spec_proof;
-ghost use Rattle.pvs_parser.specs.Grammar.{spelling};
+ghost use Rattle.pvs_syntax.specs.declared.unit.Item.TheVariants as item;
+ghost use Rattle.pvs_parser.specs.Text.{SpanIn};
+ghost use Rattle.pvs_script.specs.Reading.{script_of};
 ghost use Rattle.pvs_cli.specs.Trees.{tree_of};
 ghost use Rattle.pvs_cli.specs.Sequents.{sequent_of};
-ghost use Rattle.pvs_cli.specs.Entries as spec;
-ghost use Rattle.pvs_cli.specs.Index.{HasNames, value_of};
-ghost use Rattle.pvs_cli.specs.LemmaIndex.{HasLemmas, named_formulas};
-ghost use Rattle.pvs_cli.specs.Shown.{entries_shown, kind_shown};
+ghost use Rattle.pvs_cli.specs.Index.{HasFormulas};
+ghost use Rattle.pvs_cli.specs.LemmaIndex.{HasLemmas, tree_at};
+ghost use Rattle.pvs_cli.specs.Names.{FormulaName};
+ghost use Rattle.pvs_cli.specs.Shown.{entries_shown, entry_shown, kind_shown, part_shown, parts_shown};
 ghost use Rattle.pvs_cli.specs.Replays.{outcome_of};
-ghost use Rattle.pvs_cli.specs.Verdicts.{goal, lemma_formula, lemma_of, named_lemma, or_else, verdict};
+ghost use Rattle.pvs_cli.specs.Theories as spec;
+ghost use Rattle.pvs_cli.specs.Verdicts.{goal, lemma_formula, or_else, part_lemma, replayed, theory_lemma, verdict};
 
 use crate::entries::{Entry, EntryKind};
-use crate::index::Index;
-use crate::names::is_same_name;
+use crate::index::FormulaIndex;
+use crate::names::spelling_of;
 use crate::replay::{Outcome, replay};
 use crate::sequent::Sequent;
+use crate::theories::Part;
 use crate::tree::Tree;
 use pvs_base::{Code, Fault};
-use pvs_parser::{FormulaWord, Proof, Word, spelling_of};
+use pvs_script::{ScriptFault, read_script};
+use pvs_syntax::{FormulaWord, Proof};
 use std::alloc::{AllocError, Global};
 
 /// The formula of an entry that is a lemma.
@@ -28,76 +32,70 @@ fn lemma_formula(kind: &EntryKind) -> Option<&Tree>
     ensures { option_map (λ t. tree_of t.now) result ≡ lemma_formula (kind_shown kind.now) }
 {
     match kind {
-        EntryKind::Constant => None,
-        EntryKind::Formula(word, tree) => match word {
-            FormulaWord::Axiom => None,
-            FormulaWord::Lemma => Some(tree),
-        },
+        EntryKind::Formula(FormulaWord::Lemma, tree) => Some(tree),
+        _ => None,
     }
 }
 
-/// The index of the formulas of lemmas, where the first of a name counts.
-pub fn index_lemmas<'e, 'a>(
-    alloc: Global,
-    text: &'a [u8],
-    entries: &'e [Entry],
-) -> Result<Index<'a, &'e Tree>, AllocError>
-    ensures { IfOk result (λ i. HasLemmas i (entries_shown text.now entries.now)) }
-{
-    let mut formulas = Index::new(alloc);
-    for entry in entries {
-        add_lemma(&mut formulas, text, entry)?;
-    }
-    Ok(formulas)
-}
-
-/// Adds the formula of an entry that is a lemma, where its name has none.
+/// Adds the formula of an entry of a theory that is a lemma, where its name has none.
 fn add_lemma<'e, 'a>(
-    formulas: &mut Index<'a, &'e Tree>,
+    formulas: &mut FormulaIndex<'a, &'e Tree>,
     text: &'a [u8],
+    theory: &'a [u8],
     entry: &'e Entry,
 ) -> Result<(), AllocError>
-    ensures { OnOk result ((name : List ℕ) → option_map (λ t. tree_of t.now) (value_of formulas.new name) ≡ or_else (option_map (λ t. tree_of t.now) (value_of formulas.old name)) (lemma_of name (spelling text.now entry.now.name) (kind_shown entry.now.kind))) }
+    ensures { OnOk result ((n : FormulaName) → tree_at formulas.new n ≡ or_else (tree_at formulas.old n) (theory_lemma theory.now (entry_shown text.now entry.now ∷ []) n)) }
 {
     match lemma_formula(&entry.kind) {
         None => Ok(()),
-        Some(tree) => {
-            formulas.add(spelling_of(text, &entry.name), tree)?;
-            Ok(())
-        }
+        Some(tree) => formulas.add(theory, spelling_of(text, &entry.name), tree),
     }
 }
 
-/// The formula that a proof names, where the theory is this one and has the lemma.
-fn named_lemma<'e, 'a>(
+/// Adds the formulas of the lemmas of a theory.
+fn add_lemmas<'e, 'a>(
+    formulas: &mut FormulaIndex<'a, &'e Tree>,
     text: &'a [u8],
-    theory: Word,
-    lemmas: &Index<'a, &'e Tree>,
-    proof: &Proof,
-) -> Option<&'e Tree>
-    ensures { (es : List spec.Entry) → HasLemmas lemmas.now es → option_map (λ t. tree_of t.now) result ≡ named_lemma text.now theory es proof.now }
-{
-    if is_same_name(spelling_of(text, &theory), spelling_of(text, &proof.theory)) {
-        lemmas.find(spelling_of(text, &proof.formula))
-    } else {
-        None
-    }
-}
-
-/// Adds the formula that a proof names, where the theory is this one.
-pub fn add_named<'a>(
-    named: &mut Index<'a, ()>,
-    text: &'a [u8],
-    theory: Word,
-    proof: &Proof,
+    theory: &'a [u8],
+    entries: &'e [Entry],
 ) -> Result<(), AllocError>
-    ensures { OnOk result ((earlier : List spec_proof.Proof) → HasNames named.old (named_formulas text.now theory earlier) → HasNames named.new (named_formulas text.now theory (earlier ++ proof.now ∷ []))) }
+    ensures { OnOk result ((n : FormulaName) → tree_at formulas.new n ≡ or_else (tree_at formulas.old n) (theory_lemma theory.now (entries_shown text.now entries.now) n)) }
 {
-    if !is_same_name(spelling_of(text, &theory), spelling_of(text, &proof.theory)) {
-        return Ok(());
+    for entry in entries {
+        add_lemma(formulas, text, theory, entry)?;
     }
-    named.add(spelling_of(text, &proof.formula), ())?;
     Ok(())
+}
+
+/// Adds the formulas of the lemmas of a part.
+fn add_part<'e, 'a>(
+    formulas: &mut FormulaIndex<'a, &'e Tree>,
+    text: &'a [u8],
+    part: &'e Part<'_>,
+) -> Result<(), AllocError>
+    ensures { OnOk result ((n : FormulaName) → tree_at formulas.new n ≡ or_else (tree_at formulas.old n) (part_lemma (part_shown text.now part.now) n)) }
+{
+    match part {
+        Part::Accepted(theory, entries) => {
+            add_lemmas(formulas, text, spelling_of(text, theory), entries)
+        }
+        _ => Ok(()),
+    }
+}
+
+/// The index of the formulas of the lemmas of a unit with these parts.
+pub fn index_lemmas<'e, 'a>(
+    alloc: Global,
+    text: &'a [u8],
+    parts: &'e [Part<'_>],
+) -> Result<FormulaIndex<'a, &'e Tree>, AllocError>
+    ensures { IfOk result (λ i. HasLemmas i (parts_shown text.now parts.now)) }
+{
+    let mut formulas = FormulaIndex::new(alloc);
+    for part in parts {
+        add_part(&mut formulas, text, part)?;
+    }
+    Ok(formulas)
 }
 
 /// The sequent that is to be proved of a formula.
@@ -112,30 +110,53 @@ fn goal<'a>(alloc: Global, tree: &'a Tree) -> Result<Sequent<'a>, AllocError>
     })
 }
 
-/// What becomes of a proof, where the theory has these lemmas, and earlier proofs name these of them.
+/// What the script of a proof comes to on a formula: the fault is the first of the script, or else
+/// that of the first step that is refused.
+fn replayed<'e>(
+    alloc: Global,
+    text: &[u8],
+    proof: &Proof,
+    tree: &'e Tree,
+) -> Result<Outcome<'e>, AllocError>
+    requires short { length text.now ≤ 2 ^ 20 }
+    requires span { SpanIn text.now (item.Proof proof.now) }
+    ensures { IfOk result (λ o. outcome_of o ≡ replayed (goal (tree_of tree.now)) (script_of text.now proof.now)) }
+{
+    match read_script(alloc, text, proof) {
+        Ok(script) => {
+            let sequent = goal(alloc, tree)?;
+            replay(alloc, &script, &sequent)
+        }
+        Err(ScriptFault::At(fault)) => Ok(Outcome::Refused(fault)),
+        Err(ScriptFault::Memory) => Err(AllocError),
+    }
+}
+
+/// What becomes of a proof of a unit with these lemmas, where earlier proofs name these formulas.
 ///
-/// The fault NoSuchFormula comes where the theory has no such lemma, or an earlier proof names it;
-/// else the fault is that of the first step that is refused.
+/// The fault NoSuchFormula comes where there is no such lemma, or an earlier proof names it.
 pub fn verdict<'e, 'a>(
     alloc: Global,
     text: &'a [u8],
-    theory: Word,
-    lemmas: &Index<'a, &'e Tree>,
-    named: &Index<'a, ()>,
+    lemmas: &FormulaIndex<'a, &'e Tree>,
+    named: &FormulaIndex<'a, ()>,
     proof: &Proof,
 ) -> Result<Outcome<'e>, AllocError>
-    ensures { (es : List spec.Entry) (earlier : List spec_proof.Proof) → HasLemmas lemmas.now es → HasNames named.now (named_formulas text.now theory earlier) → IfOk result (λ o. outcome_of o ≡ verdict text.now theory es earlier proof.now) }
+    requires short { length text.now ≤ 2 ^ 20 }
+    requires span { SpanIn text.now (item.Proof proof.now) }
+    ensures { (parts : List spec.Part) (earlier : List FormulaName) → HasLemmas lemmas.now parts → HasFormulas named.now earlier → IfOk result (λ o. outcome_of o ≡ verdict text.now parts earlier proof.now) }
 {
     let no_such_formula = Outcome::Refused(Fault {
         pos: proof.theory.pos,
         code: Code::NoSuchFormula,
     });
-    let Some(tree) = named_lemma(text, theory, lemmas, proof) else {
+    let theory = spelling_of(text, &proof.theory);
+    let formula = spelling_of(text, &proof.formula);
+    let Some(tree) = lemmas.find(theory, formula) else {
         return Ok(no_such_formula);
     };
-    if named.find(spelling_of(text, &proof.formula)).is_some() {
+    if named.find(theory, formula).is_some() {
         return Ok(no_such_formula);
     }
-    let sequent = goal(alloc, tree)?;
-    replay(alloc, &proof.script, &sequent)
+    replayed(alloc, text, proof, tree)
 }

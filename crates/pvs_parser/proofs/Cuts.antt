@@ -1,5 +1,5 @@
 -- Readings of tokens that are the same up to a cut.
-use Rattle.std.proofs.Common.{◌≡◌, ◌∙◌, ℕ, zero, suc, ◌+◌, ◌-◌, ◌<◌, ◌≤◌, ◌⊎◌, inl, inr, Bool, true, false, if◌then◌else◌, List, [], ◌∷◌, ◌++◌, length, Option, Some, None, Result, Ok, Err, refl, sym, ap, subst, length-append, arith}
+use Rattle.std.proofs.Common.{◌≡◌, ◌∙◌, ℕ, suc, ◌+◌, ◌-◌, ◌<◌, ◌≤◌, ◌⊎◌, inl, inr, Bool, true, false, if◌then◌else◌, [], ◌∷◌, ◌++◌, length, Option, Some, None, Ok, Err, refl, sym, ap, subst, length-append, arith}
 use Rattle.pvs_parser.specs.declared.failure.Reason.{Reason}
 use Rattle.pvs_parser.specs.declared.failure.Reason.TheVariants as reason
 use Rattle.pvs_parser.specs.declared.failure.Stop.{Stop}
@@ -182,15 +182,21 @@ heads cut u Mode.Before n f g ts us (t ∷ q, e, e2, le) k j =
 pub stops : {X : Type 0} (cut : Cut) (s : Shape X) (mode : Mode) (n : ℕ) (ts us : Tokens) → Meets cut mode n ts us → Goes cut s mode n (stop ts) (stop us)
 stops cut s Mode.Past n ts us h = h
 stops cut s Mode.Before n ts us ([], e, e2, le) = inl (omega (arith, ap length e))
-stops cut s Mode.Before n ts us (t ∷ q, e, e2, le) = inr (inr (length q, omega (arith, ap length e, length_cut q cut.here),
-    ap (λ z. Err (record { left = z; reason = reason.Unexpected })) (omega (arith, ap length e2, length_cut q cut.there))))
+stops cut s Mode.Before n ts us (t ∷ q, e, e2, le) = inr (inr (
+  length q,
+  omega (arith, ap length e, length_cut q cut.here),
+  ap (λ z. Err (record { left = z; reason = reason.Unexpected })) (omega (arith, ap length e2, length_cut q cut.there)),
+))
 
 -- the first of the tokens is one too many
 pub too_many_goes : {X : Type 0} (cut : Cut) (s : Shape X) (mode : Mode) (n : ℕ) (t : Terminal) (ts us : Tokens) → Meets cut mode n (t ∷ ts) (t ∷ us) → Goes cut s mode n (too_many (t ∷ ts)) (too_many (t ∷ us))
 too_many_goes cut s Mode.Past n t ts us h = h
 too_many_goes cut s Mode.Before n t ts us ([], e, e2, le) = inl (omega (arith, ap length e))
-too_many_goes cut s Mode.Before n t ts us (v ∷ q, e, e2, le) = inr (inr (length q, omega (arith, ap length e, length_cut q cut.here),
-    ap (λ z. Err (record { left = z; reason = reason.TooNested })) (omega (arith, ap length e2, length_cut q cut.there))))
+too_many_goes cut s Mode.Before n t ts us (v ∷ q, e, e2, le) = inr (inr (
+  length q,
+  omega (arith, ap length e, length_cut q cut.here),
+  ap (λ z. Err (record { left = z; reason = reason.TooNested })) (omega (arith, ap length e2, length_cut q cut.there)),
+))
 
 -- what a test leads to, the same in both readings
 pub pick : {Y : Type 0} (cut : Cut) (u : Shape Y) (mode : Mode) (n : ℕ) (b : Bool) (f g d c : Answer Y) → (b ≡ true → Goes cut u mode n f g) → (b ≡ false → Goes cut u mode n d c)
@@ -213,10 +219,10 @@ pub after_less : {Y : Type 0} (cut : Cut) (u : Shape Y) (mode : Mode) (n top : �
     → Goes cut u mode n (either (after k ts) f (d ts)) (either (after k us) g (c us))
 after_less cut u mode n top low k f g d c ts us h taken left =
     heads cut u mode n (λ z. either (after k z) f (d z)) (λ z. either (after k z) g (c z)) ts us h (at_end cut u n top d c left) (λ later l t vs ws meets took less. one later l t vs ws meets took less (same_kind t.kind k))
-    where
-  one : (later : Mode) → Later mode later → (t : Terminal) (vs ws : Tokens) → Meets cut later n (t ∷ vs) (t ∷ ws) → Took cut later (n - 1) vs ws → Low later (n - 1) n → (b : Bool) → Goes cut u later n (either (if b then Some vs else None) f (d (t ∷ vs))) (either (if b then Some ws else None) g (c (t ∷ ws)))
-  one later l t vs ws meets took less true = raise cut u later n _ _ (taken later (low_less later n top less (low_later mode later n (top + 1) l low)) less vs ws took)
-  one later l t vs ws meets took less false = left later (low_later mode later n (top + 1) l low) (t ∷ vs) (t ∷ ws) meets
+  where
+    one : (later : Mode) → Later mode later → (t : Terminal) (vs ws : Tokens) → Meets cut later n (t ∷ vs) (t ∷ ws) → Took cut later (n - 1) vs ws → Low later (n - 1) n → (b : Bool) → Goes cut u later n (either (if b then Some vs else None) f (d (t ∷ vs))) (either (if b then Some ws else None) g (c (t ∷ ws)))
+    one later l t vs ws meets took less true = raise cut u later n _ _ (taken later (low_less later n top less (low_later mode later n (top + 1) l low)) less vs ws took)
+    one later l t vs ws meets took less false = left later (low_later mode later n (top + 1) l low) (t ∷ vs) (t ∷ ws) meets
 
 pub after_or : {Y : Type 0} (cut : Cut) (u : Shape Y) (mode : Mode) (n top : ℕ) → Low mode n (top + 1) → (k : TerminalKind) (f g d c : Tokens → Answer Y) (ts us : Tokens) → Meets cut mode n ts us
     → ((later : Mode) → Low later (n - 1) top → (vs ws : Tokens) → Took cut later (n - 1) vs ws → Goes cut u later (n - 1) (f vs) (g ws))
@@ -229,30 +235,30 @@ pub expect_then : {Y : Type 0} (cut : Cut) (u : Shape Y) (mode : Mode) (n top : 
     → ((later : Mode) → Low later (n - 1) top → (vs ws : Tokens) → Took cut later (n - 1) vs ws → Goes cut u later (n - 1) (f vs) (g ws)) → Goes cut u mode n (expect k ts >>= f) (expect k us >>= g)
 expect_then cut u mode n top low k f g ts us h taken =
     heads cut u mode n (λ z. expect k z >>= f) (λ z. expect k z >>= g) ts us h (omega arith) (λ later l t vs ws meets took less. one later l t vs ws meets took less (same_kind t.kind k))
-    where
-  one : (later : Mode) → Later mode later → (t : Terminal) (vs ws : Tokens) → Meets cut later n (t ∷ vs) (t ∷ ws) → Took cut later (n - 1) vs ws → Low later (n - 1) n → (b : Bool) → Goes cut u later n ((if b then Ok vs else stop (t ∷ vs)) >>= f) ((if b then Ok ws else stop (t ∷ ws)) >>= g)
-  one later l t vs ws meets took less true = raise cut u later n _ _ (taken later (low_less later n top less (low_later mode later n (top + 1) l low)) vs ws took)
-  one later l t vs ws meets took less false = stops cut u later n (t ∷ vs) (t ∷ ws) meets
+  where
+    one : (later : Mode) → Later mode later → (t : Terminal) (vs ws : Tokens) → Meets cut later n (t ∷ vs) (t ∷ ws) → Took cut later (n - 1) vs ws → Low later (n - 1) n → (b : Bool) → Goes cut u later n ((if b then Ok vs else stop (t ∷ vs)) >>= f) ((if b then Ok ws else stop (t ∷ ws)) >>= g)
+    one later l t vs ws meets took less true = raise cut u later n _ _ (taken later (low_less later n top less (low_later mode later n (top + 1) l low)) vs ws took)
+    one later l t vs ws meets took less false = stops cut u later n (t ∷ vs) (t ∷ ws) meets
 
 -- an identifier has to come next
 pub id_then : {Y : Type 0} (cut : Cut) (u : Shape Y) (mode : Mode) (n top : ℕ) → Low mode n (top + 1) → (f g : Word × Tokens → Answer Y) (ts us : Tokens) → Meets cut mode n ts us
     → ((later : Mode) → Low later (n - 1) top → (w : Word) (vs ws : Tokens) → Took cut later (n - 1) vs ws → Goes cut u later (n - 1) (f (w, vs)) (g (w, ws))) → Goes cut u mode n (id ts >>= f) (id us >>= g)
 id_then cut u mode n top low f g ts us h taken =
     heads cut u mode n (λ z. id z >>= f) (λ z. id z >>= g) ts us h (omega arith) (λ later l t vs ws meets took less. one later l t vs ws meets took less (is_id t.kind))
-    where
-  one : (later : Mode) → Later mode later → (t : Terminal) (vs ws : Tokens) → Meets cut later n (t ∷ vs) (t ∷ ws) → Took cut later (n - 1) vs ws → Low later (n - 1) n → (b : Bool) → Goes cut u later n ((if b then Ok (t.word, vs) else stop (t ∷ vs)) >>= f) ((if b then Ok (t.word, ws) else stop (t ∷ ws)) >>= g)
-  one later l t vs ws meets took less true = raise cut u later n _ _ (taken later (low_less later n top less (low_later mode later n (top + 1) l low)) t.word vs ws took)
-  one later l t vs ws meets took less false = stops cut u later n (t ∷ vs) (t ∷ ws) meets
+  where
+    one : (later : Mode) → Later mode later → (t : Terminal) (vs ws : Tokens) → Meets cut later n (t ∷ vs) (t ∷ ws) → Took cut later (n - 1) vs ws → Low later (n - 1) n → (b : Bool) → Goes cut u later n ((if b then Ok (t.word, vs) else stop (t ∷ vs)) >>= f) ((if b then Ok (t.word, ws) else stop (t ∷ ws)) >>= g)
+    one later l t vs ws meets took less true = raise cut u later n _ _ (taken later (low_less later n top less (low_later mode later n (top + 1) l low)) t.word vs ws took)
+    one later l t vs ws meets took less false = stops cut u later n (t ∷ vs) (t ∷ ws) meets
 
 -- a number has to come next
 pub number_then : {Y : Type 0} (cut : Cut) (u : Shape Y) (mode : Mode) (n top : ℕ) → Low mode n (top + 1) → (f g : Word × Tokens → Answer Y) (ts us : Tokens) → Meets cut mode n ts us
     → ((later : Mode) → Low later (n - 1) top → (w : Word) (vs ws : Tokens) → Took cut later (n - 1) vs ws → Goes cut u later (n - 1) (f (w, vs)) (g (w, ws))) → Goes cut u mode n (number ts >>= f) (number us >>= g)
 number_then cut u mode n top low f g ts us h taken =
     heads cut u mode n (λ z. number z >>= f) (λ z. number z >>= g) ts us h (omega arith) (λ later l t vs ws meets took less. one later l t vs ws meets took less (same_kind t.kind kind.Number))
-    where
-  one : (later : Mode) → Later mode later → (t : Terminal) (vs ws : Tokens) → Meets cut later n (t ∷ vs) (t ∷ ws) → Took cut later (n - 1) vs ws → Low later (n - 1) n → (b : Bool) → Goes cut u later n ((if b then Ok (t.word, vs) else stop (t ∷ vs)) >>= f) ((if b then Ok (t.word, ws) else stop (t ∷ ws)) >>= g)
-  one later l t vs ws meets took less true = raise cut u later n _ _ (taken later (low_less later n top less (low_later mode later n (top + 1) l low)) t.word vs ws took)
-  one later l t vs ws meets took less false = stops cut u later n (t ∷ vs) (t ∷ ws) meets
+  where
+    one : (later : Mode) → Later mode later → (t : Terminal) (vs ws : Tokens) → Meets cut later n (t ∷ vs) (t ∷ ws) → Took cut later (n - 1) vs ws → Low later (n - 1) n → (b : Bool) → Goes cut u later n ((if b then Ok (t.word, vs) else stop (t ∷ vs)) >>= f) ((if b then Ok (t.word, ws) else stop (t ∷ ws)) >>= g)
+    one later l t vs ws meets took less true = raise cut u later n _ _ (taken later (low_less later n top less (low_later mode later n (top + 1) l low)) t.word vs ws took)
+    one later l t vs ws meets took less false = stops cut u later n (t ∷ vs) (t ∷ ws) meets
 
 -- an = or /= is taken where one comes next
 pub compares_or : {Y : Type 0} (cut : Cut) (u : Shape Y) (mode : Mode) (n top : ℕ) → Low mode n (top + 1) → (f g : InfixWord × Tokens → Answer Y) (d c : Tokens → Answer Y) (ts us : Tokens) → Meets cut mode n ts us
@@ -261,10 +267,10 @@ pub compares_or : {Y : Type 0} (cut : Cut) (u : Shape Y) (mode : Mode) (n top : 
     → Goes cut u mode n (either (compares ts) f (d ts)) (either (compares us) g (c us))
 compares_or cut u mode n top low f g d c ts us h taken left =
     heads cut u mode n (λ z. either (compares z) f (d z)) (λ z. either (compares z) g (c z)) ts us h (at_end cut u n top d c left) (λ later l t vs ws meets took less. one later l t vs ws meets took less (comparison t.kind))
-    where
-  one : (later : Mode) → Later mode later → (t : Terminal) (vs ws : Tokens) → Meets cut later n (t ∷ vs) (t ∷ ws) → Took cut later (n - 1) vs ws → Low later (n - 1) n → (o : Option InfixWord) → Goes cut u later n (either (compares_of o vs) f (d (t ∷ vs))) (either (compares_of o ws) g (c (t ∷ ws)))
-  one later l t vs ws meets took less (Some w) = raise cut u later n _ _ (taken later (low_less later n top less (low_later mode later n (top + 1) l low)) w vs ws took)
-  one later l t vs ws meets took less None = left later (low_later mode later n (top + 1) l low) (t ∷ vs) (t ∷ ws) meets
+  where
+    one : (later : Mode) → Later mode later → (t : Terminal) (vs ws : Tokens) → Meets cut later n (t ∷ vs) (t ∷ ws) → Took cut later (n - 1) vs ws → Low later (n - 1) n → (o : Option InfixWord) → Goes cut u later n (either (compares_of o vs) f (d (t ∷ vs))) (either (compares_of o ws) g (c (t ∷ ws)))
+    one later l t vs ws meets took less (Some w) = raise cut u later n _ _ (taken later (low_less later n top less (low_later mode later n (top + 1) l low)) w vs ws took)
+    one later l t vs ws meets took less None = left later (low_later mode later n (top + 1) l low) (t ∷ vs) (t ∷ ws) meets
 
 -- NOT, the word of a binder or LET is taken where one comes next
 pub begins_or : {Y : Type 0} (cut : Cut) (u : Shape Y) (mode : Mode) (n top : ℕ) → Low mode n (top + 1) → (f g : Prefix × Word × Tokens → Answer Y) (d c : Tokens → Answer Y) (ts us : Tokens) → Meets cut mode n ts us
@@ -273,10 +279,10 @@ pub begins_or : {Y : Type 0} (cut : Cut) (u : Shape Y) (mode : Mode) (n top : �
     → Goes cut u mode n (either (begins ts) f (d ts)) (either (begins us) g (c us))
 begins_or cut u mode n top low f g d c ts us h taken left =
     heads cut u mode n (λ z. either (begins z) f (d z)) (λ z. either (begins z) g (c z)) ts us h (at_end cut u n top d c left) (λ later l t vs ws meets took less. one later l t vs ws meets took less (prefix t.kind))
-    where
-  one : (later : Mode) → Later mode later → (t : Terminal) (vs ws : Tokens) → Meets cut later n (t ∷ vs) (t ∷ ws) → Took cut later (n - 1) vs ws → Low later (n - 1) n → (o : Option Prefix) → Goes cut u later n (either (begins_of o t.word vs) f (d (t ∷ vs))) (either (begins_of o t.word ws) g (c (t ∷ ws)))
-  one later l t vs ws meets took less (Some p) = raise cut u later n _ _ (taken later (low_less later n top less (low_later mode later n (top + 1) l low)) p t.word vs ws took)
-  one later l t vs ws meets took less None = left later (low_later mode later n (top + 1) l low) (t ∷ vs) (t ∷ ws) meets
+  where
+    one : (later : Mode) → Later mode later → (t : Terminal) (vs ws : Tokens) → Meets cut later n (t ∷ vs) (t ∷ ws) → Took cut later (n - 1) vs ws → Low later (n - 1) n → (o : Option Prefix) → Goes cut u later n (either (begins_of o t.word vs) f (d (t ∷ vs))) (either (begins_of o t.word ws) g (c (t ∷ ws)))
+    one later l t vs ws meets took less (Some p) = raise cut u later n _ _ (taken later (low_less later n top less (low_later mode later n (top + 1) l low)) p t.word vs ws took)
+    one later l t vs ws meets took less None = left later (low_later mode later n (top + 1) l low) (t ∷ vs) (t ∷ ws) meets
 
 -- ---- levels
 
@@ -366,11 +372,11 @@ pub after_later : {Y : Type 0} (cut : Cut) (u : Shape Y) (mode : Mode) (n : ℕ)
     → Goes cut u mode n (either (after k ts) f (d ts)) (either (after k us) g (c us))
 after_later cut u mode n k f g d c ts us h taken left =
     heads cut u mode n (λ z. either (after k z) f (d z)) (λ z. either (after k z) g (c z)) ts us h (at_end_later cut u mode n d c left) (λ later l t vs ws meets took less. one later l t vs ws meets took less (same_kind t.kind k))
-    where
-  one : (later : Mode) → Later mode later → (t : Terminal) (vs ws : Tokens) → Meets cut later n (t ∷ vs) (t ∷ ws) → Took cut later (n - 1) vs ws → Low later (n - 1) n → (b : Bool)
-      → Goes cut u later n (either (if b then Some vs else None) f (d (t ∷ vs))) (either (if b then Some ws else None) g (c (t ∷ ws)))
-  one later l t vs ws meets took less true = raise cut u later n _ _ (taken later l less vs ws took)
-  one later l t vs ws meets took less false = left later l (t ∷ vs) (t ∷ ws) meets
+  where
+    one : (later : Mode) → Later mode later → (t : Terminal) (vs ws : Tokens) → Meets cut later n (t ∷ vs) (t ∷ ws) → Took cut later (n - 1) vs ws → Low later (n - 1) n → (b : Bool)
+        → Goes cut u later n (either (if b then Some vs else None) f (d (t ∷ vs))) (either (if b then Some ws else None) g (c (t ∷ ws)))
+    one later l t vs ws meets took less true = raise cut u later n _ _ (taken later l less vs ws took)
+    one later l t vs ws meets took less false = left later l (t ∷ vs) (t ∷ ws) meets
 
 pub compares_later : {Y : Type 0} (cut : Cut) (u : Shape Y) (mode : Mode) (n : ℕ) (f g : InfixWord × Tokens → Answer Y) (d c : Tokens → Answer Y) (ts us : Tokens) → Meets cut mode n ts us
     → ((later : Mode) → Later mode later → Low later (n - 1) n → (w : InfixWord) (vs ws : Tokens) → Took cut later (n - 1) vs ws → Goes cut u later (n - 1) (f (w, vs)) (g (w, ws)))
@@ -378,11 +384,11 @@ pub compares_later : {Y : Type 0} (cut : Cut) (u : Shape Y) (mode : Mode) (n : �
     → Goes cut u mode n (either (compares ts) f (d ts)) (either (compares us) g (c us))
 compares_later cut u mode n f g d c ts us h taken left =
     heads cut u mode n (λ z. either (compares z) f (d z)) (λ z. either (compares z) g (c z)) ts us h (at_end_later cut u mode n d c left) (λ later l t vs ws meets took less. one later l t vs ws meets took less (comparison t.kind))
-    where
-  one : (later : Mode) → Later mode later → (t : Terminal) (vs ws : Tokens) → Meets cut later n (t ∷ vs) (t ∷ ws) → Took cut later (n - 1) vs ws → Low later (n - 1) n → (o : Option InfixWord)
-      → Goes cut u later n (either (compares_of o vs) f (d (t ∷ vs))) (either (compares_of o ws) g (c (t ∷ ws)))
-  one later l t vs ws meets took less (Some w) = raise cut u later n _ _ (taken later l less w vs ws took)
-  one later l t vs ws meets took less None = left later l (t ∷ vs) (t ∷ ws) meets
+  where
+    one : (later : Mode) → Later mode later → (t : Terminal) (vs ws : Tokens) → Meets cut later n (t ∷ vs) (t ∷ ws) → Took cut later (n - 1) vs ws → Low later (n - 1) n → (o : Option InfixWord)
+        → Goes cut u later n (either (compares_of o vs) f (d (t ∷ vs))) (either (compares_of o ws) g (c (t ∷ ws)))
+    one later l t vs ws meets took less (Some w) = raise cut u later n _ _ (taken later l less w vs ws took)
+    one later l t vs ws meets took less None = left later l (t ∷ vs) (t ∷ ws) meets
 
 pub begins_later : {Y : Type 0} (cut : Cut) (u : Shape Y) (mode : Mode) (n : ℕ) (f g : Prefix × Word × Tokens → Answer Y) (d c : Tokens → Answer Y) (ts us : Tokens) → Meets cut mode n ts us
     → ((later : Mode) → Later mode later → Low later (n - 1) n → (p : Prefix) (w : Word) (vs ws : Tokens) → Took cut later (n - 1) vs ws → Goes cut u later (n - 1) (f (p, w, vs)) (g (p, w, ws)))
@@ -390,11 +396,11 @@ pub begins_later : {Y : Type 0} (cut : Cut) (u : Shape Y) (mode : Mode) (n : ℕ
     → Goes cut u mode n (either (begins ts) f (d ts)) (either (begins us) g (c us))
 begins_later cut u mode n f g d c ts us h taken left =
     heads cut u mode n (λ z. either (begins z) f (d z)) (λ z. either (begins z) g (c z)) ts us h (at_end_later cut u mode n d c left) (λ later l t vs ws meets took less. one later l t vs ws meets took less (prefix t.kind))
-    where
-  one : (later : Mode) → Later mode later → (t : Terminal) (vs ws : Tokens) → Meets cut later n (t ∷ vs) (t ∷ ws) → Took cut later (n - 1) vs ws → Low later (n - 1) n → (o : Option Prefix)
-      → Goes cut u later n (either (begins_of o t.word vs) f (d (t ∷ vs))) (either (begins_of o t.word ws) g (c (t ∷ ws)))
-  one later l t vs ws meets took less (Some p) = raise cut u later n _ _ (taken later l less p t.word vs ws took)
-  one later l t vs ws meets took less None = left later l (t ∷ vs) (t ∷ ws) meets
+  where
+    one : (later : Mode) → Later mode later → (t : Terminal) (vs ws : Tokens) → Meets cut later n (t ∷ vs) (t ∷ ws) → Took cut later (n - 1) vs ws → Low later (n - 1) n → (o : Option Prefix)
+        → Goes cut u later n (either (begins_of o t.word vs) f (d (t ∷ vs))) (either (begins_of o t.word ws) g (c (t ∷ ws)))
+    one later l t vs ws meets took less (Some p) = raise cut u later n _ _ (taken later l less p t.word vs ws took)
+    one later l t vs ws meets took less None = left later l (t ∷ vs) (t ∷ ws) meets
 
 pub compares_past : {Y : Type 0} (cut : Cut) (u : Shape Y) (f : InfixWord × Tokens → Answer Y) (d : Tokens → Answer Y) (ts : Tokens) → length ts ≤ length cut.here → ((w : InfixWord) (vs : Tokens) → length vs < length cut.here → Shrinks cut u (f (w, vs)))
     → ((vs : Tokens) → length vs ≤ length cut.here → Shrinks cut u (d vs)) → Shrinks cut u (either (compares ts) f (d ts))

@@ -1,25 +1,21 @@
 -- Where reading a whole expression stops is its first fault.
-use Rattle.std.proofs.Common.{◌≡◌, ◌∙◌, ℕ, suc, ◌+◌, ◌<◌, ◌≤◌, ◌⊎◌, inl, inr, [], ◌∷◌, ◌++◌, length, Some, None, Result, Ok, Err, refl, sym, ap, subst, append-nil, arith}
+use Rattle.std.proofs.Common.{◌≡◌, ◌∙◌, ℕ, ◌+◌, ◌⊎◌, inl, inr, [], ◌∷◌, ◌++◌, length, None, Ok, Err, refl, sym, ap, subst, append-nil, arith}
 use Rattle.pvs_parser.specs.declared.failure.Reason.{Reason}
 use Rattle.pvs_parser.specs.declared.failure.Reason.TheVariants as reason
 use Rattle.pvs_parser.specs.declared.failure.Stop.{Stop}
-use Rattle.pvs_parser.specs.declared.nesting.Nesting.{Nesting}
 use Rattle.pvs_parser.specs.declared.terminal.Connective.TheVariants as connective
-use Rattle.pvs_parser.specs.declared.terminal.Terminal.{Terminal}
-use Rattle.pvs_parser.specs.declared.terminal.TerminalKind.TheVariants as kind
 use Rattle.pvs_syntax.specs.declared.expression.Expr.{Expr}
-use Rattle.pvs_parser.specs.Terminals.{Is, IsId}
-use Rattle.pvs_parser.specs.Language.{Tokens, Limit, bounded, outermost, Derives, Form, whole}
+use Rattle.pvs_parser.specs.Language.{Tokens, Limit, bounded, outermost, Form}
 use Rattle.pvs_parser.specs.Descent.{Answer, Read, ◌>>=◌, stop, deeper, reader, ended, expression}
 use Rattle.pvs_parser.specs.Faults.{Begins, IsWithin}
 use Rattle.pvs_parser.specs.Text.{IsExpr, Nowhere}
-use Rattle.pvs_parser.proofs.Halts.{Halts, Full, Why, Wider}
-use Rattle.pvs_parser.proofs.HaltsBegins.{Completes, Begun, completion}
+use Rattle.pvs_parser.proofs.Halts.{Full, Why, Wider}
+use Rattle.pvs_parser.proofs.HaltsBegins.{Begun, completion}
 use Rattle.pvs_parser.proofs.HaltsWholes.{read_expr_halts}
 use Rattle.pvs_parser.proofs.HaltsWiden.{wider}
 use Rattle.pvs_parser.proofs.OneExpression.{expression_sound, expression_complete}
 use Rattle.pvs_parser.proofs.Wholes.{read_expr_sound}
-use Rattle.pvs_parser.proofs.Cuts.{Cut, Mode, Shape, Agrees, Goes, Meets, three, beyond, bind_later, heads, stops}
+use Rattle.pvs_parser.proofs.Cuts.{Cut, Mode, Agrees, Goes, Meets, three, bind_later, heads, stops}
 use Rattle.pvs_parser.proofs.Locality.{Paired, whole_expr}
 use Rattle.pvs_parser.proofs.UnitLocality.{alone}
 use Rattle.pvs_parser.proofs.FirstFault.{Reading, HaltsAt, HaltWhy}
@@ -53,6 +49,7 @@ halts_of ts (Ok (x, m, t ∷ us)) read e h =
     let f = (read_expr_sound bounded (length ts + 1) outermost ts).holds (x, m, t ∷ us) read in
     subst (λ z. HaltsAt IsExpr Nowhere ts z) (stop_same (stop (t ∷ us)) (record { left = length (t ∷ us); reason = reason.Unexpected }) e refl h)
     (record { before = f.1; rest = t ∷ us; split = f.2.same; left = refl; within = IsWithin.begins ([], subst (λ z. IsExpr bounded z) (sym (append-nil f.1)) (x, f.0, m, f.3)); why = λ v more g is no_place. no_place })
+
 -- reading the rest of an expression
 ended_goes : (cut : Cut) (x : Expr) (mode : Mode) (m : ℕ) (ts us : Tokens) → Meets cut mode m ts us → Goes cut alone mode m (ended x ts) (ended x us)
 ended_goes cut x mode m ts us h = heads cut alone mode m (λ z. ended x z) (λ z. ended x z) ts us h (omega arith) (λ a la t vs ws meets took less. stops cut alone a m (t ∷ vs) (t ∷ ws) meets)

@@ -1,5 +1,5 @@
 -- Where reading stops is the first fault, and there is one at most.
-use Rattle.std.proofs.Common.{◌≡◌, ◌∙◌, ℕ, zero, suc, ◌+◌, ◌-◌, ◌<◌, ◌≤◌, ◌⊎◌, inl, inr, Bool, true, false, if◌then◌else◌, List, [], ◌∷◌, ◌++◌, length, slice_get, Option, Some, None, Result, Ok, Err, refl, sym, ap, subst, append_assoc, append-nil, length-append, arith}
+use Rattle.std.proofs.Common.{◌≡◌, ◌∙◌, ℕ, suc, ◌-◌, ◌<◌, ◌⊎◌, inl, inr, Bool, true, false, [], ◌∷◌, ◌++◌, length, slice_get, Option, Some, None, Result, Ok, Err, refl, sym, ap, subst, append_assoc, append-nil, length-append, arith}
 use Rattle.pvs_base.specs.declared.code.Fault.{Fault}
 use Rattle.pvs_base.specs.declared.place.Pos.{Pos}
 use Rattle.pvs_parser.specs.declared.failure.Reason.{Reason}
@@ -9,10 +9,10 @@ use Rattle.pvs_parser.specs.declared.terminal.Terminal.{Terminal}
 use Rattle.pvs_parser.specs.declared.terminal.TerminalKind.TheVariants as kind
 use Rattle.pvs_parser.specs.Terminals.{Is, IsId}
 use Rattle.pvs_parser.specs.Language.{Tokens, Limit, bounded}
-use Rattle.pvs_parser.specs.Descent.{Answer, is_below}
-use Rattle.pvs_parser.specs.Faults.{code_of, last_fault, Begins, IsWithin, BehindEnd, IsWhy, FaultBehind, IsFirst}
+use Rattle.pvs_parser.specs.Descent.{Answer}
+use Rattle.pvs_parser.specs.Faults.{code_of, Begins, IsWithin, IsWhy, FaultBehind, IsFirst}
 use Rattle.pvs_parser.specs.Text.{Terminals, judged, unless_fault, fault_of, fault_at}
-use Rattle.pvs_parser.proofs.Cuts.{Cut, Agrees, Rooms}
+use Rattle.pvs_parser.proofs.Cuts.{Cut, Agrees}
 use Rattle.pvs_parser.proofs.Locality.{Paired}
 use Rattle.pvs_parser.proofs.UnitLocality.{alone}
 
@@ -214,9 +214,10 @@ not_within D before t never comma (IsWithin.comma us u e is b n) = comma (let sa
 refused_at : {A : Type 0} (D : Limit → Tokens → Type 0) (E : Tokens → Type 0) (read : Limit → Tokens → Answer A) → Reading D E read → (ts before rest more : Tokens) (t : Terminal) (e : Stop) → ts ≡ before ++ rest → rest ≡ t ∷ more → length rest ≡ e.left → read bounded ts ≡ Err e
     → (why : Reason) → e.reason ≡ why → HaltWhy D E before rest why → (IsWithin D (before ++ t ∷ []) → ⊥) × IsWhy D E before t why
 refused_at D E read r ts before rest more t e split f left stop reason.TooNested is h =
-    let same = heads_same h.0 t h.1 more (sym h.2 ∙ f) in
-    (not_within D before t (λ b. none_excused e.reason (not_bounded D E read r ts before rest more t e split f left stop b)) (subst (λ z. z.kind ≡ kind.Comma → ⊥) same.0 h.3),
-    subst (λ z. Begins D None (before ++ z ∷ [])) same.0 h.4)
+    let same = heads_same h.0 t h.1 more (sym h.2 ∙ f) in (
+      not_within D before t (λ b. none_excused e.reason (not_bounded D E read r ts before rest more t e split f left stop b)) (subst (λ z. z.kind ≡ kind.Comma → ⊥) same.0 h.3),
+      subst (λ z. Begins D None (before ++ z ∷ [])) same.0 h.4,
+    )
 refused_at D E read r ts before rest more t e split f left stop reason.WrongEnd is h =
     let never : Begins D None (before ++ t ∷ []) → ⊥ = λ b. not_nested e.reason (inr is) (not_free D E read r ts before rest more t e split f left stop b) in
     let same = heads_same h.0 t h.1 more (sym h.2 ∙ f) in
@@ -252,10 +253,11 @@ fault_behind D E read r end fault ts e stop before [] split left why = (
 fault_behind D E read r end fault ts e stop before (t ∷ more) split left why =
     let h = refused_at D E read r ts before (t ∷ more) more t e split refl left stop e.reason refl why in
     (h.0, e.reason, h.1, ap (λ z. fault_at end fault ts z e.reason (slice_get ts z)) number_is ∙ ap (λ z. fault_at end fault ts (length before) e.reason z) token_is) where
-  number_is : length ts - e.left ≡ length before
-  number_is = omega (arith, left, ap length split, length-append before (t ∷ more))
-  token_is : slice_get ts (length before) ≡ Some t
-  token_is = ap (λ z. slice_get z (length before)) split ∙ at_number before more t
+      number_is : length ts - e.left ≡ length before
+      number_is = omega (arith, left, ap length split, length-append before (t ∷ more))
+
+      token_is : slice_get ts (length before) ≡ Some t
+      token_is = ap (λ z. slice_get z (length before)) split ∙ at_number before more t
 
 stop_first : {A : Type 0} (D : Limit → Tokens → Type 0) (E : Tokens → Type 0) (read : Limit → Tokens → Answer A) → Reading D E read → (end : Pos) (fault : Option Fault) (ts : Tokens) (e : Stop) → read bounded ts ≡ Err e → IsFirst D E end fault ts (fault_of end fault ts e)
 stop_first D E read r end fault ts e stop =

@@ -4,9 +4,8 @@ use Rattle.pvs_parser.specs.declared.failure.Reason.{Reason}
 use Rattle.pvs_parser.specs.declared.failure.Reason.TheVariants as reason
 use Rattle.pvs_parser.specs.declared.failure.Stop.{Stop}
 use Rattle.pvs_parser.specs.declared.terminal.Terminal.{Terminal}
-use Rattle.pvs_parser.specs.declared.terminal.TerminalKind.TheVariants as kind
 use Rattle.pvs_syntax.specs.declared.word.Word.{Word}
-use Rattle.pvs_parser.specs.Terminals.{Is, IsId, is_id}
+use Rattle.pvs_parser.specs.Terminals.{IsId, is_id}
 use Rattle.pvs_parser.specs.Language.{Limit, Tokens}
 use Rattle.pvs_parser.specs.Descent.{Answer, ◌>>=◌, stop, id}
 use Rattle.pvs_parser.specs.Faults.{BehindEnd}

@@ -1,7 +1,6 @@
 -- Reading expressions and types looks at no token behind the one where it stops.
-use Rattle.std.proofs.Common.{◌≡◌, ◌∙◌, ℕ, zero, suc, ◌+◌, ◌-◌, ◌<◌, ◌≤◌, ◌||◌, ◌⊎◌, inl, inr, Bool, true, false, if◌then◌else◌, List, [], ◌∷◌, ◌++◌, length, Option, Some, None, Result, Ok, Err, refl, sym, ap, subst, length-append, arith}
+use Rattle.std.proofs.Common.{◌≡◌, ◌∙◌, ℕ, zero, suc, ◌+◌, ◌-◌, ◌<◌, ◌≤◌, ◌||◌, ◌⊎◌, inl, inr, Bool, true, false, if◌then◌else◌, List, [], ◌∷◌, ◌++◌, length, Option, Some, None, Ok, Err, refl, sym, ap, subst, arith}
 use Rattle.pvs_parser.specs.declared.failure.Reason.TheVariants as reason
-use Rattle.pvs_parser.specs.declared.failure.Stop.{Stop}
 use Rattle.pvs_parser.specs.declared.nesting.Nesting.{Nesting}
 use Rattle.pvs_parser.specs.declared.start.Start.{Start}
 use Rattle.pvs_parser.specs.declared.start.Start.TheVariants as start
@@ -20,14 +19,13 @@ use Rattle.pvs_syntax.specs.declared.expression.BinderWord.{BinderWord}
 use Rattle.pvs_syntax.specs.declared.expression.InfixWord.{InfixWord}
 use Rattle.pvs_syntax.specs.declared.expression.Expr.{Expr}
 use Rattle.pvs_syntax.specs.declared.expression.Expr.TheVariants as expr
-use Rattle.pvs_syntax.specs.declared.expression.NameExpr.{NameExpr}
 use Rattle.pvs_syntax.specs.declared.expression.TypeExpr.{TypeExpr}
 use Rattle.pvs_syntax.specs.declared.expression.TypeExpr.TheVariants as type_expr
 use Rattle.pvs_parser.specs.Terminals.{IsId, is_id, same_kind}
-use Rattle.pvs_parser.specs.Language.{Tokens, Limit, Item, ItemTree, level, inside, cleared, marked, held, sign, operator, named, qualified, instance, typed, untyped, equation, empty, grouped, begins_type}
-use Rattle.pvs_parser.specs.Descent.{Answer, Read, Go, ◌>>=◌, either, begins, begins_of, prefix, compares, stop, too_many, deeper, after, expect, id, labels, labels_of, is_below, mark, hold, enter, parameter_of, parameter_with, comes_type, unnamed_with, typed_with, component_with, variable_with, bare_variable, value_with, definition_with, item_with, crowded, list_from, starts_expr, starts_type, starts_item, entries, list_with, framed_with, name_of, instance_name_with, name_after, group_with, condition_with, cond_with, if_with, name_term_with, first_of, first_with, call_mark, call_with, project, term_from, term_with, body_with, bindings_with, bare_bindings_with, binder_with, let_with, not_with, prefixed_with, last_with, compared_from, comparison_with, operand_with, chain_after, chain_on, between_with, chain_with, else_with, elsif_with, otherwise_of, otherwise_with, pred_type_with, base_with, sub_type_with, fun_type_with, tuple_type, bracket_type_with, name_type_with, type_of, type_with, expr_with, step, nothing, reader}
+use Rattle.pvs_parser.specs.Language.{Tokens, Limit, Item, inside, cleared, marked, held, sign, operator, named, qualified, instance, typed, untyped, equation, empty, grouped, begins_type}
+use Rattle.pvs_parser.specs.Descent.{Answer, Read, Go, ◌>>=◌, either, begins, begins_of, prefix, stop, too_many, deeper, after, id, labels_of, mark, parameter_of, parameter_with, unnamed_with, typed_with, component_with, variable_with, bare_variable, value_with, definition_with, item_with, crowded, list_from, starts_expr, starts_type, starts_item, entries, list_with, framed_with, name_of, instance_name_with, name_after, group_with, condition_with, cond_with, if_with, name_term_with, first_of, first_with, call_mark, call_with, project, term_from, term_with, body_with, bindings_with, bare_bindings_with, binder_with, let_with, not_with, prefixed_with, last_with, compared_from, comparison_with, operand_with, chain_after, chain_on, between_with, chain_with, else_with, elsif_with, otherwise_of, otherwise_with, pred_type_with, base_with, sub_type_with, fun_type_with, tuple_type, bracket_type_with, name_type_with, type_of, type_with, expr_with, step, reader}
 use Rattle.pvs_parser.proofs.DescentSound.{reader_limit}
-use Rattle.pvs_parser.proofs.Cuts.{Cut, Mode, Meets, Took, Low, Shape, two, three, four, Goes, Shrinks, Agrees, Takes, Enters, Opens, Later, low_later, Rooms, beyond, bind, done_two, done_three, done_four, weaken, low_less, low_more, raise, heads, stops, pick, after_or, after_less, bind_later, after_later, compares_later, begins_later, compares_past, begins_past, room_past, later_trans, bind_past, after_past, too_many_goes, expect_then, id_then, number_then, compares_or, begins_or, room_then, length_cut}
+use Rattle.pvs_parser.proofs.Cuts.{Cut, Mode, Meets, Took, Low, Shape, two, three, four, Goes, Shrinks, Agrees, Takes, Enters, Opens, Later, low_later, Rooms, beyond, bind, done_two, done_three, done_four, weaken, low_less, low_more, raise, heads, stops, pick, after_or, bind_later, after_later, compares_later, begins_later, compares_past, begins_past, room_past, later_trans, bind_past, after_past, too_many_goes, expect_then, id_then, number_then, begins_or, room_then, length_cut}
 
 -- the entries of lists are as many in both readings, or any number in the other, where that is excused
 abbrev pub Lists : Cut → Limit → Limit → Type 0
@@ -103,14 +101,17 @@ labels_past cut n go other d l [] h = unnamed_goes cut n go other d l Mode.Past 
 labels_past cut n go other d l (t ∷ ts) h = one (is_id t.kind) where
   typed_past : (us : Tokens) → length us ≤ length cut.here → Shrinks cut three (typed_with go t.word l us)
   typed_past us h = typed_goes cut n go other d t.word l Mode.Past 0 tt us us h
+
   unnamed_past : Shrinks cut three (unnamed_with go l (t ∷ ts))
   unnamed_past = unnamed_goes cut n go other d l Mode.Past 0 tt (t ∷ ts) (t ∷ ts) h
+
   two_of : (us : Tokens) → length us ≤ length cut.here → Shrinks cut three (either (labels_of t.word (after kind.Colon us)) (λ p. typed_with go p.0 l p.1) (unnamed_with go l (t ∷ ts)))
   two_of [] h = unnamed_past
   two_of (u ∷ us) h = three_of (same_kind u.kind kind.Colon) where
     three_of : (b : Bool) → Shrinks cut three (either (labels_of t.word (if b then Some us else None)) (λ p. typed_with go p.0 l p.1) (unnamed_with go l (t ∷ ts)))
     three_of true = typed_past us (omega (arith, h))
     three_of false = unnamed_past
+
   one : (b : Bool) → Shrinks cut three (either (if b then labels_of t.word (after kind.Colon ts) else None) (λ p. typed_with go p.0 l p.1) (unnamed_with go l (t ∷ ts)))
   one true = two_of ts (omega (arith, h))
   one false = unnamed_past
@@ -122,8 +123,10 @@ last_id cut n go other d le l t ts is h = two_of ts h where
   unnamed_of : (o : Read TypeExpr) → Shrinks cut three o → Shrinks cut three (o >>= λ q. Ok (typed (empty t.word) q.0, q.1, q.2))
   unnamed_of (Ok x) h = h
   unnamed_of (Err e) h = h
+
   unnamed_past : Shrinks cut three (unnamed_with go l (t ∷ ts))
   unnamed_past = unnamed_of (go.type l (t ∷ ts)) (d.names l t ts le is h)
+
   two_of : (us : Tokens) → length us ≤ length cut.here → Shrinks cut three (either (labels_of t.word (after kind.Colon us)) (λ p. typed_with go p.0 l p.1) (unnamed_with go l (t ∷ ts)))
   two_of [] h = unnamed_past
   two_of (u ∷ us) h = three_of (same_kind u.kind kind.Colon) where
@@ -142,10 +145,13 @@ component_before cut n go other d l m low (t ∷ []) le = one (is_id t.kind) ref
 component_before cut n go other d l m low (t ∷ u ∷ q) le = one (is_id t.kind) (same_kind u.kind kind.Colon) where
   ts : Tokens
   ts = t ∷ u ∷ (q ++ cut.here)
+
   us : Tokens
   us = t ∷ u ∷ (q ++ cut.there)
+
   unnamed : Agrees cut three m (unnamed_with go l ts) (unnamed_with other l us)
   unnamed = unnamed_goes cut n go other d l Mode.Before m low ts us (t ∷ u ∷ q, refl, refl, le)
+
   one : (b c : Bool) → Agrees cut three m (either (if b then labels_of t.word (if c then Some (q ++ cut.here) else None) else None) (λ p. typed_with go p.0 l p.1) (unnamed_with go l ts))
       (either (if b then labels_of t.word (if c then Some (q ++ cut.there) else None) else None) (λ p. typed_with other p.0 l p.1) (unnamed_with other l us))
   one true true = typed_goes cut n go other d t.word l Mode.Before m low (q ++ cut.here) (q ++ cut.there) (q, refl, refl, omega (arith, le))
@@ -215,15 +221,16 @@ crowded_excused : {A : Type 0} (cut : Cut) (n : ℕ) (starts : TerminalKind → 
 unfolding list_from
 crowded_excused {A = A} cut n starts reads others i ex mode m j found l ts us h =
     heads cut three mode m (λ z. crowded starts z) (λ z. list_from starts others (suc j) found l z) ts us h (omega arith) (λ a la t vs ws meets took less. one a t vs ws meets (starts t.kind) refl) where
-  excuse : (a : Mode) (t : Terminal) (vs ws : Tokens) (o : Read (List A)) → Meets cut a m (t ∷ vs) (t ∷ ws) → Goes cut three a m (too_many (t ∷ vs)) o
-  excuse Mode.Past t vs ws o meets = meets
-  excuse Mode.Before t vs ws o meets = inr (inl ex)
-  one : (a : Mode) (t : Terminal) (vs ws : Tokens) → Meets cut a m (t ∷ vs) (t ∷ ws) → (b : Bool) → starts t.kind ≡ b
-      → Goes cut three a m (if b then too_many (t ∷ vs) else stop (t ∷ vs)) (others l (t ∷ ws) >>= λ p. either (after kind.Comma p.2) (λ us. list_from starts others j (found ++ p.0 ∷ []) (cleared p.1) us) (Ok (found ++ p.0 ∷ [], p.1, p.2)))
-  one a t vs ws meets true is = excuse a t vs ws _ meets
-  one a t vs ws meets false is =
-      subst (λ z. Goes cut three a m (stop (t ∷ vs)) (z >>= λ p. either (after kind.Comma p.2) (λ us. list_from starts others j (found ++ p.0 ∷ []) (cleared p.1) us) (Ok (found ++ p.0 ∷ [], p.1, p.2))))
-      (sym (i.rejects l t ws is)) (stops cut three a m (t ∷ vs) (t ∷ ws) meets)
+      excuse : (a : Mode) (t : Terminal) (vs ws : Tokens) (o : Read (List A)) → Meets cut a m (t ∷ vs) (t ∷ ws) → Goes cut three a m (too_many (t ∷ vs)) o
+      excuse Mode.Past t vs ws o meets = meets
+      excuse Mode.Before t vs ws o meets = inr (inl ex)
+
+      one : (a : Mode) (t : Terminal) (vs ws : Tokens) → Meets cut a m (t ∷ vs) (t ∷ ws) → (b : Bool) → starts t.kind ≡ b
+          → Goes cut three a m (if b then too_many (t ∷ vs) else stop (t ∷ vs)) (others l (t ∷ ws) >>= λ p. either (after kind.Comma p.2) (λ us. list_from starts others j (found ++ p.0 ∷ []) (cleared p.1) us) (Ok (found ++ p.0 ∷ [], p.1, p.2)))
+      one a t vs ws meets true is = excuse a t vs ws _ meets
+      one a t vs ws meets false is =
+          subst (λ z. Goes cut three a m (stop (t ∷ vs)) (z >>= λ p. either (after kind.Comma p.2) (λ us. list_from starts others j (found ++ p.0 ∷ []) (cleared p.1) us) (Ok (found ++ p.0 ∷ [], p.1, p.2))))
+          (sym (i.rejects l t ws is)) (stops cut three a m (t ∷ vs) (t ∷ ws) meets)
 
 pub crowded_goes : {X : Type 0} (cut : Cut) (s : Shape X) (starts : TerminalKind → Bool) (mode : Mode) (m : ℕ) (ts us : Tokens) → Meets cut mode m ts us → Goes cut s mode m (crowded starts ts) (crowded starts us)
 crowded_goes cut s starts mode m ts us h =
@@ -486,7 +493,7 @@ compared_turn : (cut : Cut) (n : ℕ) (go other : Go) → Deep cut n go other �
     → ((mode : Mode) (m : ℕ) → Low mode m (n + 1) → Turns cut mode k j m → (y : Expr) (i : Nesting) (ts us : Tokens) → Meets cut mode m ts us → Goes cut three mode m (compared_from go k y i ts) (compared_from other j y i us))
     → (mode : Mode) (m : ℕ) → Low mode m n → Turns cut mode k j m → (ts us : Tokens) → Took cut mode m ts us
     → Goes cut three mode m (mark go.limit l ts >>= λ i. either (begins ts) (λ q. last_with go o x i q.0 q.1 q.2) (term_with go i ts >>= λ r. compared_from go k (expr.Infix o x r.0) r.1 r.2))
-      (mark other.limit l us >>= λ i. either (begins us) (λ q. last_with other o x i q.0 q.1 q.2) (term_with other i us >>= λ r. compared_from other j (expr.Infix o x r.0) r.1 r.2))
+    (mark other.limit l us >>= λ i. either (begins us) (λ q. last_with other o x i q.0 q.1 q.2) (term_with other i us >>= λ r. compared_from other j (expr.Infix o x r.0) r.1 r.2))
 compared_turn cut n go other d k j o x l next mode m low t ts us h =
     room_then cut three mode m go.limit other.limit d.rooms l (marked l) _ _ ts us h
     (begins_later cut three mode m _ _ (λ z. term_with go (marked l) z >>= λ r. compared_from go k (expr.Infix o x r.0) r.1 r.2) (λ z. term_with other (marked l) z >>= λ r. compared_from other j (expr.Infix o x r.0) r.1 r.2) ts us (weaken cut mode m ts us h)

@@ -1,16 +1,13 @@
 -- Reading units looks at no token behind the one where it stops.
-use Rattle.std.proofs.Common.{◌≡◌, ◌∙◌, ℕ, zero, suc, ◌+◌, ◌-◌, ◌<◌, ◌≤◌, ◌⊎◌, inl, inr, Bool, true, false, if◌then◌else◌, List, [], ◌∷◌, ◌++◌, length, map, Option, Some, None, Result, Ok, Err, refl, sym, ap, subst, length-append, arith}
+use Rattle.std.proofs.Common.{◌≡◌, ◌∙◌, ℕ, zero, suc, ◌+◌, ◌-◌, ◌<◌, ◌≤◌, ◌⊎◌, inl, inr, Bool, true, false, if◌then◌else◌, List, [], ◌∷◌, ◌++◌, length, map, Option, Some, None, Ok, Err, refl, sym, ap, subst, length-append, arith}
 use Rattle.std.specs.Prelude.{bytes_eq}
 use Rattle.pvs_parser.specs.declared.failure.Reason.TheVariants as reason
-use Rattle.pvs_parser.specs.declared.failure.Stop.{Stop}
 use Rattle.pvs_parser.specs.declared.nesting.Nesting.{Nesting}
 use Rattle.pvs_parser.specs.declared.terminal.Terminal.{Terminal}
 use Rattle.pvs_parser.specs.declared.terminal.TerminalKind.{TerminalKind}
 use Rattle.pvs_parser.specs.declared.terminal.TerminalKind.TheVariants as kind
 use Rattle.pvs_syntax.specs.declared.word.Word.{Word}
-use Rattle.pvs_syntax.specs.declared.expression.Actual.{Actual}
 use Rattle.pvs_syntax.specs.declared.expression.Binding.{Binding}
-use Rattle.pvs_syntax.specs.declared.expression.Expr.{Expr}
 use Rattle.pvs_syntax.specs.declared.expression.InstExpr.{InstExpr}
 use Rattle.pvs_syntax.specs.declared.expression.TypeExpr.{TypeExpr}
 use Rattle.pvs_syntax.specs.declared.unit.Decl.{Decl}
@@ -20,21 +17,19 @@ use Rattle.pvs_syntax.specs.declared.unit.FormulaWord.{FormulaWord}
 use Rattle.pvs_syntax.specs.declared.unit.FormulaWord.TheVariants as formula_word
 use Rattle.pvs_syntax.specs.declared.unit.Item.{Item}
 use Rattle.pvs_syntax.specs.declared.unit.Item.TheVariants as item
-use Rattle.pvs_syntax.specs.declared.unit.Proof.{Proof}
-use Rattle.pvs_syntax.specs.declared.unit.Theory.{Theory}
 use Rattle.pvs_syntax.specs.declared.unit.Unit as tree
 use Rattle.pvs_parser.specs.Terminals.{IsId, is_id, same_kind}
 use Rattle.pvs_parser.specs.Language.{Tokens, Limit, Item as ListItem, instance, cleared, outermost, inside}
 use Rattle.pvs_parser.specs.Units.{DerivesDecl, DerivesAssumed, type_formal, const_formal, type_decl, var_decl, const_decl, formula_of, spelling}
-use Rattle.pvs_parser.specs.Descent.{Answer, Read, ◌>>=◌, either, stop, too_many, too_deep, after, expect, id, is_below, enter, deeper, crowded, list_from, entries, framed_with, reader}
-use Rattle.pvs_parser.specs.UnitDescent.{whole_reader, expr, type, name, ids, actuals, inst, instances_from, importing, plus, formal_of, formal_after, formal, formals_from, formals, formal_part, variables, body, constant, function, constants, type_definition, type_decls, types, formula, formulas, stated, declared_of, declared, named, begun, declaration, assumed_of, assumed_after, assumed, comes_kind, comes_decl, past_semicolon, many_from, declarations, assumptions, assuming_part, heading, same_name, ending, theory, balanced_of, balanced, script, target, proof, one_item, items_from, unit}
+use Rattle.pvs_parser.specs.Descent.{Answer, Read, ◌>>=◌, either, stop, too_many, too_deep, after, expect, id, is_below, crowded, list_from, entries}
+use Rattle.pvs_parser.specs.UnitDescent.{expr, type, name, ids, actuals, inst, instances_from, importing, plus, formal_of, formal_after, formal, formals_from, formals, formal_part, variables, body, constant, function, constants, type_definition, type_decls, types, formula, formulas, stated, declared_of, declared, named, begun, declaration, assumed_of, assumed_after, assumed, comes_kind, comes_decl, past_semicolon, many_from, declarations, assumptions, assuming_part, heading, same_name, ending, theory, balanced_of, balanced, script, target, proof, one_item, items_from, unit}
 use Rattle.pvs_parser.proofs.Yields.{Yields}
 use Rattle.pvs_parser.proofs.Deeper.{Fore}
 use Rattle.pvs_parser.proofs.Decls.{declaration_sound, assumed_sound}
 use Rattle.pvs_parser.proofs.DeclsRead.{decl_comes, assumed_comes}
 use Rattle.pvs_parser.proofs.WholeUnits.{IsItem, item_sound, item_some}
-use Rattle.pvs_parser.proofs.Cuts.{Cut, Mode, Meets, Took, Later, later_trans, low_later, low_less, low_more, Low, Shape, two, three, four, Goes, Shrinks, Agrees, Rooms, beyond, bind_later, bind_past, after_later, after_past, done_two, done_three, weaken, raise, deep, heads, stops, pick, expect_then, id_then, room_then, length_cut}
-use Rattle.pvs_parser.proofs.Locality.{Paired, Lists, Items, crowded_past, list_past, list_goes, raise_to, start_enough, id_stops, crowded_goes, whole_expr, whole_type, whole_framed, Fits, fits_less, fits_later, Turns, turns_less, turns_later, no_turn}
+use Rattle.pvs_parser.proofs.Cuts.{Cut, Mode, Meets, Took, Later, later_trans, Low, Shape, two, three, Goes, Shrinks, Agrees, Rooms, beyond, bind_later, bind_past, after_later, after_past, done_two, done_three, weaken, raise, deep, heads, stops, pick, expect_then, id_then, room_then, length_cut}
+use Rattle.pvs_parser.proofs.Locality.{Paired, Lists, Items, crowded_past, list_past, list_goes, raise_to, start_enough, id_stops, crowded_goes, whole_expr, whole_type, whole_framed, Fits, fits_less, fits_later, Turns, turns_less, no_turn}
 
 -- a function of tokens that follows another one
 abbrev pub Follows : {X : Type 0} → Cut → Shape X → (Tokens → Answer X) → (Tokens → Answer X) → Type 0
@@ -90,8 +85,8 @@ ids_list cut a b p Mode.Before m ts us (q, e, e2, le) =
     subst (λ z. Agrees cut three m (list_from is_id name (entries a ts) [] outermost ts) (list_from is_id name (entries b z) [] outermost z)) (sym e2) (raise_to cut three (length q) m le _ _
     (list_goes cut (length q + 1) is_id name name (more_names cut (length q + 1)) (entries a ts) (entries b (q ++ cut.there)) Mode.Before (length q) (omega arith)
     (start_enough cut a b p.lists ts q) [] outermost ts (q ++ cut.there) (q, e, refl, omega arith))) where
-  more_names : (cut : Cut) (n : ℕ) → Items cut n is_id name name
-  more_names cut n = record { reading = λ l mode m low ts us h. name_goes cut l mode m ts us h; rejects = λ l t ts is. id_stops t ts _ is }
+      more_names : (cut : Cut) (n : ℕ) → Items cut n is_id name name
+      more_names cut n = record { reading = λ l mode m low ts us h. name_goes cut l mode m ts us h; rejects = λ l t ts is. id_stops t ts _ is }
 
 ids_goes : (cut : Cut) (a b : Limit) → Paired cut a b → Follows cut two (ids a) (ids b)
 ids_goes cut a b p = bind_of cut three two _ _ _ _ (ids_list cut a b p) (λ x mode m us i. done_two cut mode m x.0 x.2 us i)
@@ -141,11 +136,12 @@ importing_goes cut a b p = bind_of cut two two _ _ _ _ (turned cut two 1 (λ k t
 plus_goes : {X : Type 0} (cut : Cut) (h : Bool → X) → Follows cut two (λ ts. Ok (h (plus ts).0, (plus ts).1)) (λ us. Ok (h (plus us).0, (plus us).1))
 plus_goes cut h mode m ts us meets =
     heads cut two mode m (λ z. Ok (h (plus z).0, (plus z).1)) (λ z. Ok (h (plus z).0, (plus z).1)) ts us meets (omega arith) (λ a la t vs ws i took less. one a t vs ws i took (same_kind t.kind kind.Plus)) where
-  of : Terminal → Tokens → Bool → Bool × Tokens
-  of t vs b = either (if b then Some vs else None) (λ us. (true, us)) (false, t ∷ vs)
-  one : (a : Mode) (t : Terminal) (vs ws : Tokens) → Meets cut a m (t ∷ vs) (t ∷ ws) → Took cut a (m - 1) vs ws → (b : Bool) → Goes cut two a m (Ok (h (of t vs b).0, (of t vs b).1)) (Ok (h (of t ws b).0, (of t ws b).1))
-  one a t vs ws i took true = raise cut two a m _ _ (done_two cut a (m - 1) (h true) vs ws (weaken cut a (m - 1) vs ws took))
-  one a t vs ws i took false = done_two cut a m (h false) (t ∷ vs) (t ∷ ws) i
+      of : Terminal → Tokens → Bool → Bool × Tokens
+      of t vs b = either (if b then Some vs else None) (λ us. (true, us)) (false, t ∷ vs)
+
+      one : (a : Mode) (t : Terminal) (vs ws : Tokens) → Meets cut a m (t ∷ vs) (t ∷ ws) → Took cut a (m - 1) vs ws → (b : Bool) → Goes cut two a m (Ok (h (of t vs b).0, (of t vs b).1)) (Ok (h (of t ws b).0, (of t ws b).1))
+      one a t vs ws i took true = raise cut two a m _ _ (done_two cut a (m - 1) (h true) vs ws (weaken cut a (m - 1) vs ws took))
+      one a t vs ws i took false = done_two cut a m (h false) (t ∷ vs) (t ∷ ws) i
 
 -- a function of the first token, and of those behind it
 abbrev Firsts : {X : Type 0} → Cut → Shape X → (Terminal → Tokens → Answer X) → (Terminal → Tokens → Answer X) → Type 0
@@ -199,6 +195,7 @@ unfolding list_from
 formal_rejects b t ts is le = first (entries b (t ∷ ts)) le where
   rest : Read (List Word) → Answer (List Formal × Tokens)
   rest o = names_of o >>= λ p. expect kind.Colon p.1 >>= λ us. formal_after b p.0 us
+
   first : (k : ℕ) → 1 ≤ k → rest (list_from is_id name k [] outermost (t ∷ ts)) ≡ stop (t ∷ ts)
   first zero le = absurd (omega (arith, le))
   first (suc k) le = ap (λ c. rest (names_test k t ts c)) is
@@ -207,17 +204,19 @@ formals_excused : (cut : Cut) (b : Limit) → b ≡ None → cut.excused reason.
 unfolding formals_from
 formals_excused cut b none ex j found mode m ts us h =
     heads cut two mode m (λ z. crowded is_id z) (λ z. formals_from b (suc j) found z) ts us h (omega arith) (λ a la t vs ws i took less. one a t vs ws i (is_id t.kind) refl) where
-  some : (t : Terminal) (ws : Tokens) → 1 ≤ entries b (t ∷ ws)
-  some t ws = subst (λ z. 1 ≤ entries z (t ∷ ws)) (sym none) (omega arith)
-  excuse : (a : Mode) (t : Terminal) (vs ws : Tokens) (o : Answer (List Formal × Tokens)) → Meets cut a m (t ∷ vs) (t ∷ ws) → Goes cut two a m (too_many (t ∷ vs)) o
-  excuse Mode.Past t vs ws o i = i
-  excuse Mode.Before t vs ws o i = inr (inl ex)
-  one : (a : Mode) (t : Terminal) (vs ws : Tokens) → Meets cut a m (t ∷ vs) (t ∷ ws) → (c : Bool) → is_id t.kind ≡ c
-      → Goes cut two a m (if c then too_many (t ∷ vs) else stop (t ∷ vs)) (formal b (t ∷ ws) >>= λ p. either (after kind.Comma p.1) (λ us. formals_from b j (found ++ p.0) us) (Ok (found ++ p.0, p.1)))
-  one a t vs ws i true is = excuse a t vs ws _ i
-  one a t vs ws i false is =
-      subst (λ z. Goes cut two a m (stop (t ∷ vs)) (z >>= λ p. either (after kind.Comma p.1) (λ us. formals_from b j (found ++ p.0) us) (Ok (found ++ p.0, p.1)))) (sym (formal_rejects b t ws is (some t ws)))
-      (stops cut two a m (t ∷ vs) (t ∷ ws) i)
+      some : (t : Terminal) (ws : Tokens) → 1 ≤ entries b (t ∷ ws)
+      some t ws = subst (λ z. 1 ≤ entries z (t ∷ ws)) (sym none) (omega arith)
+
+      excuse : (a : Mode) (t : Terminal) (vs ws : Tokens) (o : Answer (List Formal × Tokens)) → Meets cut a m (t ∷ vs) (t ∷ ws) → Goes cut two a m (too_many (t ∷ vs)) o
+      excuse Mode.Past t vs ws o i = i
+      excuse Mode.Before t vs ws o i = inr (inl ex)
+
+      one : (a : Mode) (t : Terminal) (vs ws : Tokens) → Meets cut a m (t ∷ vs) (t ∷ ws) → (c : Bool) → is_id t.kind ≡ c
+          → Goes cut two a m (if c then too_many (t ∷ vs) else stop (t ∷ vs)) (formal b (t ∷ ws) >>= λ p. either (after kind.Comma p.1) (λ us. formals_from b j (found ++ p.0) us) (Ok (found ++ p.0, p.1)))
+      one a t vs ws i true is = excuse a t vs ws _ i
+      one a t vs ws i false is =
+          subst (λ z. Goes cut two a m (stop (t ∷ vs)) (z >>= λ p. either (after kind.Comma p.1) (λ us. formals_from b j (found ++ p.0) us) (Ok (found ++ p.0, p.1)))) (sym (formal_rejects b t ws is (some t ws)))
+          (stops cut two a m (t ∷ vs) (t ∷ ws) i)
 
 -- the entries that two readings may have, where the second one has no limit if they are not as many
 abbrev Room : Cut → Limit → Mode → ℕ → ℕ → ℕ → Type 0
@@ -328,9 +327,11 @@ unfolding list_from
 ids_take cut a b p t ts is h = of_entries (entries a (t ∷ ts)) (p.some t ts) where
   follow : Shrinks cut three (list_from is_id name (entries a (t ∷ ts)) [] outermost (t ∷ ts)) → Shrinks cut two (ids a (t ∷ ts))
   follow g = bind_past cut three two (list_from is_id name (entries a (t ∷ ts)) [] outermost (t ∷ ts)) _ g (λ x hx. hx)
+
   id_taken : (k : ℕ) (c : Bool) → c ≡ true → Shrinks cut three (names_test k t ts c)
   id_taken k true e = after_past cut three kind.Comma _ (λ z. Ok (t.word ∷ [], outermost, z)) ts h (λ vs lt. list_past cut 0 is_id name name (names cut) k (t.word ∷ []) outermost vs (omega (arith, lt))) (λ vs le. le)
   id_taken k false e = cc
+
   of_entries : (k : ℕ) → 1 ≤ k → Shrinks cut two (list_from is_id name k [] outermost (t ∷ ts) >>= λ p. Ok (p.0, p.2))
   of_entries zero le = absurd (omega (arith, le))
   of_entries (suc k) le = bind_past cut three two (list_from is_id name (suc k) [] outermost (t ∷ ts)) _ (id_taken k (is_id t.kind) is) (λ x hx. hx)
@@ -358,11 +359,14 @@ begun_before cut a b p m (t ∷ []) le = one (is_id t.kind) refl where
 begun_before cut a b p m (t ∷ u ∷ q) le = one (is_id t.kind) where
   ts : Tokens
   ts = t ∷ u ∷ (q ++ cut.here)
+
   us : Tokens
   us = t ∷ u ∷ (q ++ cut.there)
+
   behind : (e : Bool) → Agrees cut two m (either (if e then Some (q ++ cut.here) else None) (λ us. function a t.word us) (named a ts)) (either (if e then Some (q ++ cut.there) else None) (λ us. function b t.word us) (named b us))
   behind true = function_goes cut a b p t.word Mode.Before m (q ++ cut.here) (q ++ cut.there) (q, refl, refl, omega (arith, le))
   behind false = named_goes cut a b p Mode.Before m ts us (t ∷ u ∷ q, refl, refl, le)
+
   one : (c : Bool) → Agrees cut two m (id_test t (u ∷ (q ++ cut.here)) c >>= λ p. either (after kind.Open p.1) (λ us. function a p.0 us) (named a ts))
       (id_test t (u ∷ (q ++ cut.there)) c >>= λ p. either (after kind.Open p.1) (λ us. function b p.0 us) (named b us))
   one true = behind (same_kind u.kind kind.Open)
@@ -452,13 +456,15 @@ many_before cut f g h s (suc k) (suc j) m t found (v ∷ q) le =
 many_goes : (cut : Cut) (f g : Tokens → Answer (List Decl × Tokens)) → Follows cut two f g → Shorter f → Follows cut two (λ ts. many_from f (length ts) [] ts) (λ us. many_from g (length us) [] us)
 many_goes cut f g h s mode m ts us i =
     subst (λ z. Goes cut two mode m (many_from f z [] ts) (many_from g (length us) [] us)) plus_none (subst (λ z. Goes cut two mode m (many_from f (length ts + 0) [] ts) (many_from g z [] us)) plus_none2 (turned cut two 0 (λ k ts. many_from f k [] ts) (λ k us. many_from g k [] us) of mode m ts us i)) where
-  plus_none : length ts + 0 ≡ length ts
-  plus_none = omega arith
-  plus_none2 : length us + 0 ≡ length us
-  plus_none2 = omega arith
-  of : (k j : ℕ) (mode : Mode) (m : ℕ) → Turns cut mode k j m → (ts us : Tokens) → Meets cut mode m ts us → Goes cut two mode m (many_from f k [] ts) (many_from g j [] us)
-  of k j Mode.Past m t ts us i = many_past cut f (λ ts le. h Mode.Past 0 ts ts le) k [] ts i
-  of k j Mode.Before m t ts us i = at_front cut two m m (many_from f k []) (many_from g j []) ts us i (λ q le. many_before cut f g h s k j m t [] q le)
+      plus_none : length ts + 0 ≡ length ts
+      plus_none = omega arith
+
+      plus_none2 : length us + 0 ≡ length us
+      plus_none2 = omega arith
+
+      of : (k j : ℕ) (mode : Mode) (m : ℕ) → Turns cut mode k j m → (ts us : Tokens) → Meets cut mode m ts us → Goes cut two mode m (many_from f k [] ts) (many_from g j [] us)
+      of k j Mode.Past m t ts us i = many_past cut f (λ ts le. h Mode.Past 0 ts ts le) k [] ts i
+      of k j Mode.Before m t ts us i = at_front cut two m m (many_from f k []) (many_from g j []) ts us i (λ q le. many_before cut f g h s k j m t [] q le)
 
 declaration_shorter : (a : Limit) → Shorter (declaration a)
 declaration_shorter a = fore_shorter (declaration a) (DerivesDecl a) (declaration_sound a) (λ ts x d. let c = decl_comes a ts x d in (c.0, c.1, c.2))
@@ -503,7 +509,6 @@ theory_goes cut a b p text = bind_of cut three two _ _ _ _ (heading_goes cut a b
     bind_of cut two two _ _ _ _ (ending_goes cut text x.0) (λ e mode m us i. done_two cut mode m (record { name = x.0; formals = x.1; assuming = y.0; decls = z.0; end = e.0.end }) e.1 us i) mode m z.1 us i) mode m y.1 us i) mode m x.2 us i)
 
 -- ---- proofs
-
 
 -- ---- proofs
 
@@ -559,12 +564,13 @@ script_in limit t us = if is_below limit 0 then script_of limit t us else too_de
 script_goes : (cut : Cut) (a b : Limit) → Rooms cut a b → Follows cut three (script a) (script b)
 script_goes cut a b rooms mode m ts us h =
     heads cut three mode m (λ z. script a z) (λ z. script b z) ts us h (omega arith) (λ c lc t vs ws i tk less. one c t vs ws i tk (same_kind t.kind kind.Open)) where
-  good : (c : Mode) (t : Terminal) (vs ws : Tokens) → Took cut c (m - 1) vs ws → Goes cut three c (m - 1) (script_of a t vs) (script_of b t ws)
-  good c t vs ws tk = bind_of cut two three _ _ _ _ (balanced_goes cut a b rooms 0) (λ x mode n us i. done_three cut mode n t.word x.0 x.1 us i) c (m - 1) vs ws (weaken cut c (m - 1) vs ws tk)
-  one : (c : Mode) (t : Terminal) (vs ws : Tokens) → Meets cut c m (t ∷ vs) (t ∷ ws) → Took cut c (m - 1) vs ws → (x : Bool)
-      → Goes cut three c m ((if x then Ok vs else stop (t ∷ vs)) >>= λ us. script_in a t us) ((if x then Ok ws else stop (t ∷ ws)) >>= λ us. script_in b t us)
-  one c t vs ws i tk true = raise cut three c m _ _ (open_goes cut three a b rooms 0 c (m - 1) (script_of a t vs) (script_of b t ws) vs ws tk (good c t vs ws tk))
-  one c t vs ws i tk false = stops cut three c m (t ∷ vs) (t ∷ ws) i
+      good : (c : Mode) (t : Terminal) (vs ws : Tokens) → Took cut c (m - 1) vs ws → Goes cut three c (m - 1) (script_of a t vs) (script_of b t ws)
+      good c t vs ws tk = bind_of cut two three _ _ _ _ (balanced_goes cut a b rooms 0) (λ x mode n us i. done_three cut mode n t.word x.0 x.1 us i) c (m - 1) vs ws (weaken cut c (m - 1) vs ws tk)
+
+      one : (c : Mode) (t : Terminal) (vs ws : Tokens) → Meets cut c m (t ∷ vs) (t ∷ ws) → Took cut c (m - 1) vs ws → (x : Bool)
+          → Goes cut three c m ((if x then Ok vs else stop (t ∷ vs)) >>= λ us. script_in a t us) ((if x then Ok ws else stop (t ∷ ws)) >>= λ us. script_in b t us)
+      one c t vs ws i tk true = raise cut three c m _ _ (open_goes cut three a b rooms 0 c (m - 1) (script_of a t vs) (script_of b t ws) vs ws tk (good c t vs ws tk))
+      one c t vs ws i tk false = stops cut three c m (t ∷ vs) (t ∷ ws) i
 
 target_goes : (cut : Cut) → Follows cut three target target
 target_goes cut = expect_of cut three kind.Proof _ _ (took cut three _ _ (id_of cut three _ _ (λ w. took cut three _ _ (expect_of cut three kind.Dot _ _ (took cut three _ _ (id_of cut three _ _ (λ v mode m ts us t. done_three cut mode m w v ts us (weaken cut mode m ts us t))))))))
@@ -609,10 +615,12 @@ pub unit_goes : (cut : Cut) (a b : Limit) → Paired cut a b → (text : List �
 unit_goes cut a b p text q = follow (items_before cut a b p text (length (q ++ cut.here)) (length (q ++ cut.there)) (length q) (omega (arith, length_cut q cut.here), omega (arith, length_cut q cut.there)) [] q (omega arith)) where
   made : List Item → Answer tree.Unit
   made is = Ok (record { items = is })
+
   of : (o r : Answer (List Item)) → Agrees cut alone (length q) o r → Agrees cut alone (length q) (o >>= made) (r >>= made)
   of (Ok x) r h = inl (omega arith)
   of (Err e) r (inl h) = inl h
   of (Err e) r (inr (inl h)) = inr (inl h)
   of (Err e) r (inr (inr h)) = inr (inr (h.0, h.1, ap (λ z. z >>= made) h.2))
+
   follow : Agrees cut alone (length q) (items_from a text (length (q ++ cut.here)) [] (q ++ cut.here)) (items_from b text (length (q ++ cut.there)) [] (q ++ cut.there)) → Agrees cut alone (length q) (unit a text (q ++ cut.here)) (unit b text (q ++ cut.there))
   follow h = of (items_from a text (length (q ++ cut.here)) [] (q ++ cut.here)) (items_from b text (length (q ++ cut.there)) [] (q ++ cut.there)) h

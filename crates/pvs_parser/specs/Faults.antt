@@ -2,7 +2,7 @@
 --
 -- What is read, a unit or an expression, is handed in: which tokens are one, within a limit or without, and behind which the name
 -- of the theory has to stand.
-use Rattle.std.specs.Prelude.{◌≡◌, ℕ, ◌-◌, Bool, true, false, nat_lt, if◌then◌else◌, List, [], ◌∷◌, ◌++◌, length, slice_get, Option, Some, None}
+use Rattle.std.specs.Prelude.{◌≡◌, ℕ, ◌-◌, Bool, true, false, nat_lt, if◌then◌else◌, [], ◌∷◌, ◌++◌, length, slice_get, Option, Some, None}
 use Rattle.pvs_base.specs.declared.code.Code.{Code}
 use Rattle.pvs_base.specs.declared.code.Code.TheVariants as code
 use Rattle.pvs_base.specs.declared.code.Fault.{Fault}

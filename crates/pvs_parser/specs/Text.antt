@@ -1,7 +1,6 @@
 -- Which unit a text is, and which expression a span of it.
 use Rattle.std.specs.Prelude.{◌≡◌, ◌≤◌, ◌<◌, ◌^◌, ℕ, ◌+◌, ◌-◌, ◌==◌, nat_lt, Bool, true, false, if◌then◌else◌, List, [], ◌∷◌, length, map, take, drop, codes, slice_get, Option, Some, None, Result, Ok, Err, All, ⊤}
 use Rattle.std.specs.Str.{bytes_eq}
-use Rattle.pvs_base.specs.declared.code.Code.{Code}
 use Rattle.pvs_base.specs.declared.code.Code.TheVariants as code
 use Rattle.pvs_base.specs.declared.code.Fault.{Fault}
 use Rattle.pvs_base.specs.declared.place.Pos.{Pos}
@@ -19,7 +18,6 @@ use Rattle.pvs_syntax.specs.declared.unit.Item.{Item}
 use Rattle.pvs_syntax.specs.declared.unit.Item.TheVariants as item
 use Rattle.pvs_syntax.specs.declared.unit.Unit as tree
 use Rattle.pvs_parser.specs.declared.failure.Reason.{Reason}
-use Rattle.pvs_parser.specs.declared.failure.Reason.TheVariants as reason
 use Rattle.pvs_parser.specs.declared.failure.Stop.{Stop}
 use Rattle.pvs_parser.specs.declared.failure.ParseFault.{ParseFault}
 use Rattle.pvs_parser.specs.declared.failure.ParseFault.TheVariants as parse_fault

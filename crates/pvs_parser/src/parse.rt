@@ -70,6 +70,7 @@ pub fn parse_unit(alloc: Global, text: &[u8]) -> Result<Unit, ParseFault>
     ensures answer { Answers text.now result }
     // The script of each proof lies in the text, and its place is that of its first byte.
     ensures spans { IfOk result (λ u. SpansIn text.now u) }
+    // A text that reads is no longer than a text may be.
     ensures short { IfOk result (λ u. length text.now ≤ 2 ^ 20) }
 {
     read_text(alloc, text)

@@ -7,5 +7,6 @@ use Rattle.pvs_cli.proofs.entries.entries.Given as goal
 abbrev pub invariant-loop-decl : goal.invariant-loop-decl
 invariant-loop-decl l = record {
   text : l.scope.text.now ≡ l.text;
-  entries : entries_after l.text (entries_shown l.text l.scope.entries.items) (drop l.decl-index l.decls) ≡ entries_of l.text l.decls;
+  place : l.scope.at ≡ l.fn.at;
+  entries : entries_after l.text l.fn.at (entries_shown l.text l.scope.entries.items) (drop l.decl-index l.decls) ≡ entries_of l.text l.fn.at l.decls;
 }

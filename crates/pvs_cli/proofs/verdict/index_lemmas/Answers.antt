@@ -1,13 +1,17 @@
-use Rattle.std.proofs.Common.{◌<◌, length, rules}
-use Rattle.std.specs.Option.{option_map}
-use Rattle.pvs_cli.specs.Trees.{tree_of}
-use Rattle.pvs_cli.specs.Index.{value_of}
-use Rattle.pvs_cli.proofs.LemmaLaws.{lemmas_more}
+use Rattle.std.proofs.Common.{◌≡◌, ◌<◌, ◌∙◌, length, take, rules, ap, sym}
+use Rattle.pvs_cli.specs.LemmaIndex.{tree_at}
+use Rattle.pvs_cli.specs.Shown.{part_shown, parts_shown}
+use Rattle.pvs_cli.specs.Verdicts.{lemma_in}
+use Rattle.pvs_cli.proofs.LemmaLaws.{parts_more}
+use Rattle.pvs_cli.proofs.Loops.{shown_more}
 use Rattle.pvs_cli.proofs.verdict.index_lemmas.Goals as goal
 
-pub loop-entry-preserved : goal.loop-entry-preserved
-loop-entry-preserved c = λ name.
-    let inside : c.loop-entry.entry-index < length c.args.entries.now = search rules in
-    lemmas_more c.args.text.now c.args.entries.now c.loop-entry.entry-index _ c.entry-item.result inside c.entry-item.is name
-    (option_map (λ t. tree_of t.now) (value_of c.loop-entry.formulas name)) (option_map (λ t. tree_of t.now) (value_of c.add_lemma.new.formulas name))
-    (c.loop-entry.invariant name) (c.in_ok-add_lemma.ensures name)
+pub loop-part-preserved : goal.loop-part-preserved
+loop-part-preserved c = λ n.
+    let text = c.args.text.now in
+    let ps = c.args.parts.now in
+    let i = c.loop-part.part-index in
+    let p = c.part-item.result in
+    let inside : c.loop-part.part-index < length c.args.parts.now = search rules in
+    parts_more (parts_shown text (take i ps)) (part_shown text p) n (tree_at c.loop-part.formulas n) (tree_at c.add_part.new.formulas n) (c.loop-part.invariant n) (c.in_ok-add_part.ensures n)
+    ∙ ap (λ qs. lemma_in qs n) (sym (shown_more (part_shown text) ps i p inside c.part-item.is))

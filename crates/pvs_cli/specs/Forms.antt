@@ -1,0 +1,95 @@
+-- Which forms are built. A theory with another form is refused.
+use Rattle.std.specs.Prelude.{◌&&◌, ◌||◌, ◌==◌, ℕ, Bool, true, false, bytes_eq, codes, List, length, Option, Some, None, is_some, is_none, ⊤}
+use Rattle.std.specs.List.{list_all}
+use Rattle.pvs_syntax.specs.declared.word.Word.{Word}
+use Rattle.pvs_syntax.specs.declared.expression.Expr.{Expr}
+use Rattle.pvs_syntax.specs.declared.expression.TypeExpr.{TypeExpr}
+use Rattle.pvs_syntax.specs.declared.expression.NameExpr.{NameExpr}
+use Rattle.pvs_syntax.specs.declared.expression.InfixWord.{InfixWord}
+use Rattle.pvs_syntax.specs.declared.expression.InfixWord.TheVariants as infix_word
+use Rattle.pvs_syntax.specs.declared.expression.Actual.TheOpen.{Actual-F, Expr-F, TypeExpr-F, Binding-F, InstExpr-F, LetPart-F, NameExpr-F}
+use Rattle.pvs_syntax.specs.declared.expression.Actual.TheFolds.{fold-Expr, fold-NameExpr, fold-TypeExpr}
+use Rattle.pvs_syntax.specs.declared.unit.Decl.{Decl}
+use Rattle.pvs_syntax.specs.declared.unit.Decl.TheVariants as decl
+use Rattle.pvs_syntax.specs.declared.unit.FormulaWord.{FormulaWord}
+use Rattle.pvs_syntax.specs.declared.unit.FormulaWord.TheVariants as formula_word
+use Rattle.pvs_syntax.specs.declared.unit.Theory.{Theory}
+use Rattle.pvs_cli.specs.Names.{spelling}
+
+-- Each step gives of one layer of a tree what a form is, where the same of its parts stands in place of them: of an expression whether it is
+-- built, of a type and of a name the word where it is a plain name, and nothing of the rest.
+abbrev pub Step : (Type 0 → Type 0 → Type 0 → Type 0 → Type 0 → Type 0 → Type 0 → Type 0) → Type 0 → Type 0
+Step F X = F ⊤ Bool (Option Word) ⊤ ⊤ ⊤ (Option Word) → X
+
+-- the word of a name that no theory qualifies
+abbrev pub plain : Option ⊤ → Word → Option Word
+plain None w = Some w
+plain (Some i) w = None
+
+abbrev pub name_step : Step NameExpr-F (Option Word)
+name_step n = plain n.qualifier n.word
+
+abbrev pub type_step : Step TypeExpr-F (Option Word)
+type_step (TypeExpr-F.NameType w) = w
+type_step _ = None
+
+-- AND, OR and IMPLIES
+abbrev pub is_connective : InfixWord → Bool
+is_connective infix_word.And = true
+is_connective infix_word.Or = true
+is_connective infix_word.Implies = true
+is_connective _ = false
+
+abbrev pub expr_step : Step Expr-F Bool
+expr_step (Expr-F.Truth b pos) = true
+expr_step (Expr-F.NameTerm w) = is_some w
+expr_step (Expr-F.Paren x pos) = x
+expr_step (Expr-F.Cond c x y pos) = c && x && y
+expr_step (Expr-F.Not x pos) = x
+expr_step (Expr-F.Infix o x y) = is_connective o && x && y
+expr_step _ = false
+
+abbrev pub actual_step : Step Actual-F ⊤
+actual_step a = tt
+
+abbrev pub binding_step : Step Binding-F ⊤
+binding_step b = tt
+
+abbrev pub inst_step : Step InstExpr-F ⊤
+inst_step i = tt
+
+abbrev pub part_step : Step LetPart-F ⊤
+part_step p = tt
+
+-- whether an expression is built
+abbrev pub is_built : Expr → Bool
+is_built = fold-Expr ⊤ Bool (Option Word) ⊤ ⊤ ⊤ (Option Word) actual_step expr_step type_step binding_step inst_step part_step name_step
+
+-- the word of a name that no theory qualifies
+abbrev pub plain_name : NameExpr → Option Word
+plain_name = fold-NameExpr ⊤ Bool (Option Word) ⊤ ⊤ ⊤ (Option Word) actual_step expr_step type_step binding_step inst_step part_step name_step
+
+-- the word of a type that is such a name
+abbrev pub plain_type : TypeExpr → Option Word
+plain_type = fold-TypeExpr ⊤ Bool (Option Word) ⊤ ⊤ ⊤ (Option Word) actual_step expr_step type_step binding_step inst_step part_step name_step
+
+-- whether a word is the name of the type of truth values
+abbrev pub is_boolean : List ℕ → Option Word → Bool
+is_boolean text None = false
+is_boolean text (Some w) = bytes_eq (spelling text w) (codes "bool") || bytes_eq (spelling text w) (codes "boolean")
+
+-- an axiom, or a formula that is to be proved
+abbrev pub is_built_word : FormulaWord → Bool
+is_built_word formula_word.Axiom = true
+is_built_word formula_word.Assumption = false
+is_built_word formula_word.Lemma = true
+
+-- whether a declaration is built: a boolean constant without parameters and body, or a formula
+abbrev pub is_built_decl : List ℕ → Decl → Bool
+is_built_decl text (decl.ConstDecl name params ty body) = (length params == 0) && is_none body && is_boolean text (plain_type ty)
+is_built_decl text (decl.Formula name word body) = is_built_word word && is_built body
+is_built_decl text _ = false
+
+-- whether a theory is built: it has no formals and no assuming part, and each declaration is built
+abbrev pub is_built_theory : List ℕ → Theory → Bool
+is_built_theory text t = (length t.formals == 0) && (length t.assuming == 0) && list_all (is_built_decl text) t.decls

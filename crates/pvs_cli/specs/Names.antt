@@ -1,0 +1,24 @@
+-- Names by their bytes.
+use Rattle.std.specs.Prelude.{◌&&◌, ◌-◌, ℕ, Bool, bytes_eq, List, take, drop}
+use Rattle.std.specs.List.{list_any}
+use Rattle.pvs_syntax.specs.declared.word.Word.{Word}
+use Rattle.pvs_syntax.specs.declared.unit.Proof.{Proof}
+
+-- the bytes of a word of a text
+abbrev pub spelling : List ℕ → Word → List ℕ
+spelling text w = take (w.end - w.start) (drop w.start text)
+
+-- a formula, by the names of its theory and its own
+pub record FormulaName : Type 0 where
+  pub theory : List ℕ
+  pub formula : List ℕ
+
+abbrev pub is_same : FormulaName → FormulaName → Bool
+is_same a b = bytes_eq a.theory b.theory && bytes_eq a.formula b.formula
+
+abbrev pub is_among : FormulaName → List FormulaName → Bool
+is_among n ns = list_any (is_same n) ns
+
+-- the formula that a proof names
+abbrev pub named_by : List ℕ → Proof → FormulaName
+named_by text p = record { theory = spelling text p.theory; formula = spelling text p.formula }
