@@ -1,9 +1,5 @@
 -- What is read of a text or a span is its answer.
-<<<<<<< HEAD
-use Rattle.std.proofs.Common.{ℕ, ◌≤◌, ◌^◌, List, length, Result, Ok, Err, IfOk, subst}
-=======
 use Rattle.std.proofs.Common.{◌≤◌, ◌^◌, ℕ, List, length, Result, Ok, Err, IfOk, subst}
->>>>>>> dev
 use Rattle.pvs_base.specs.declared.place.Pos.{Pos}
 use Rattle.pvs_syntax.specs.declared.expression.Expr.{Expr}
 use Rattle.pvs_syntax.specs.declared.unit.Unit as tree
