@@ -29,7 +29,7 @@ crowded-of : (A : Type 0) (t : Terminal) (ts : Tokens) (b : Bool) → (if b then
 crowded-of A t ts true = refl
 crowded-of A t ts false = refl
 
-crowded-at : (A : Type 0) (starts : TerminalKind → Bool) (ts : Tokens) → crowded {A = A} starts ts ≡ Err (crowded_at (comes starts ts) ts)
+pub crowded-at : (A : Type 0) (starts : TerminalKind → Bool) (ts : Tokens) → crowded {A = A} starts ts ≡ Err (crowded_at (comes starts ts) ts)
 crowded-at A starts [] = refl
 crowded-at A starts (t ∷ ts) = crowded-of A t ts (starts t.kind)
 

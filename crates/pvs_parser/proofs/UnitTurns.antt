@@ -1,9 +1,7 @@
 -- Recursions on a count of turns, beside loops that count up.
-use Rattle.std.proofs.Common.{◌≡◌, ℕ, zero, suc, ◌+◌, ◌-◌, ◌<◌, ◌≤◌, List, [], ◌∷◌, ◌++◌, length, Bool, true, false, if◌then◌else◌, Some, None, Ok, Err, ap, ◌∙◌, refl, arith}
+use Rattle.std.proofs.Common.{◌≡◌, ℕ, zero, suc, ◌+◌, ◌-◌, ◌<◌, ◌≤◌, List, [], ◌∷◌, ◌++◌, length, true, false, Some, None, Ok, Err, ap, ◌∙◌, refl, arith}
 use Rattle.pvs_parser.specs.declared.failure.Stop.{Stop}
 use Rattle.pvs_parser.specs.declared.nesting.Nesting.{Nesting}
-use Rattle.pvs_parser.specs.declared.terminal.Terminal.{Terminal}
-use Rattle.pvs_parser.specs.declared.terminal.TerminalKind.{TerminalKind}
 use Rattle.pvs_parser.specs.declared.terminal.TerminalKind.TheVariants as kind
 use Rattle.pvs_syntax.specs.declared.word.Word.{Word}
 use Rattle.pvs_syntax.specs.declared.expression.InstExpr.{InstExpr}
@@ -13,9 +11,10 @@ use Rattle.pvs_syntax.specs.declared.unit.Item.{Item}
 use Rattle.pvs_syntax.specs.declared.unit.Unit as tree
 use Rattle.pvs_parser.specs.declared.declarations.Part.{Part}
 use Rattle.pvs_parser.specs.Language.{Limit, bounded, Tokens, outermost}
-use Rattle.pvs_parser.specs.Descent.{Answer, Read, ◌>>=◌, after, id, crowded, stop, ended, too_many, list_from}
+use Rattle.pvs_parser.specs.Descent.{Answer, Read, ◌>>=◌, after, id, stop, ended, list_from}
 use Rattle.pvs_parser.specs.Nests.{comes, crowded_at}
 use Rattle.pvs_parser.specs.Terminals.{is_id}
+use Rattle.pvs_parser.proofs.DescentTurns.{crowded-at}
 use Rattle.pvs_parser.specs.Steps.{declares}
 use Rattle.pvs_parser.specs.UnitDescent as spec
 use Rattle.pvs_parser.specs.UnitDescent.{instances_from, inst, formals_from, formal, many_from, comes_decl, past_semicolon, items_from, one_item}
@@ -25,16 +24,6 @@ turn f n at below = let e : n - at ≡ suc (n - (at + 1)) = omega arith in ap f 
 
 full : {X : Type 0} (f : ℕ → X) (n at : ℕ) → n ≤ at → f (n - at) ≡ f 0
 full f n at above = let e : n - at ≡ 0 = omega arith in ap f e
-
--- ---- Lists with no room.
-
-crowded_of : (A : Type 0) (t : Terminal) (ts : Tokens) (b : Bool) → (if b then too_many {A = A} (t ∷ ts) else stop (t ∷ ts)) ≡ Err (crowded_at b (t ∷ ts))
-crowded_of A t ts true = refl
-crowded_of A t ts false = refl
-
-crowded_is : (A : Type 0) (starts : TerminalKind → Bool) (ts : Tokens) → crowded {A = A} starts ts ≡ Err (crowded_at (comes starts ts) ts)
-crowded_is A starts [] = refl
-crowded_is A starts (t ∷ ts) = crowded_of A t ts (starts t.kind)
 
 -- ---- Identifiers with commas between them, behind those found.
 
@@ -61,7 +50,7 @@ ids_next n at found ts us vs w below e a = turn (λ k. ids_from k found ts) n at
 pub ids_full : (n at : ℕ) (found : List Word) (ts : Tokens) → n ≤ at → ids_from (n - at) found ts ≡ Err (crowded_at (comes is_id ts) ts)
 unfolding ids_from list_from
 ids_full n at found ts above =
-    full (λ k. ids_from k found ts) n at above ∙ ap (λ (r : Read (List Word)). r >>= λ p. Ok (p.0, p.2)) (crowded_is (List Word × Nesting × Tokens) is_id ts)
+    full (λ k. ids_from k found ts) n at above ∙ ap (λ (r : Read (List Word)). r >>= λ p. Ok (p.0, p.2)) (crowded-at (List Word × Nesting × Tokens) is_id ts)
 
 -- ---- Instances with commas between them.
 
@@ -104,7 +93,7 @@ formals_next n at found fs ts us vs below e a = turn (λ k. formals_from bounded
 
 pub formals_full : (n at : ℕ) (found : List Formal) (ts : Tokens) → n ≤ at → formals_from bounded (n - at) found ts ≡ Err (crowded_at (comes is_id ts) ts)
 unfolding formals_from
-formals_full n at found ts above = full (λ k. formals_from bounded k found ts) n at above ∙ crowded_is (List Formal × Tokens) is_id ts
+formals_full n at found ts above = full (λ k. formals_from bounded k found ts) n at above ∙ crowded-at (List Formal × Tokens) is_id ts
 
 -- ---- Declarations, as long as one comes next.
 
