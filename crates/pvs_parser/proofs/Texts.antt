@@ -63,12 +63,12 @@ unit_same : (o : Result tree.Unit Fault) (u v : tree.Unit) → o ≡ Ok u → o 
 unit_same o u v f g = cc
 
 -- a text that is a unit has no fault
-unit_or_fault : (text : List ℕ) (u : tree.Unit) (f : Fault) → Reads text u → IsFirstFault text f → ⊥
+pub unit_or_fault : (text : List ℕ) (u : tree.Unit) (f : Fault) → Reads text u → IsFirstFault text f → ⊥
 unit_or_fault text u _ r (IsFirstFault.too_long long) = omega (arith, long, r.small)
 unit_or_fault text u _ r (IsFirstFault.first small f first) =
     no_first (IsUnit text) BehindEnd (place_after first_place text) (terminals_of_text text).fault (terminals_of_text text).tokens f r.faultless (u, r.derives) first
 
-fault_same : (text : List ℕ) (f g : Fault) → IsFirstFault text f → IsFirstFault text g → f ≡ g
+pub fault_same : (text : List ℕ) (f g : Fault) → IsFirstFault text f → IsFirstFault text g → f ≡ g
 fault_same text _ _ (IsFirstFault.too_long long) (IsFirstFault.too_long long2) = refl
 fault_same text _ _ (IsFirstFault.too_long long) (IsFirstFault.first small g h) = absurd (omega (arith, long, small))
 fault_same text _ _ (IsFirstFault.first small f h) (IsFirstFault.too_long long) = absurd (omega (arith, long, small))
@@ -121,10 +121,15 @@ expr_same : (o : Result Expr Fault) (x y : Expr) → o ≡ Ok x → o ≡ Ok y �
 expr_same o x y f g = cc
 
 -- a span that is an expression has no fault
-expr_or_fault : (text : List ℕ) (start end : ℕ) (pos : Pos) (x : Expr) (f : Fault) → ReadsSpan text start end pos x → IsFirstFaultOfSpan text start end pos f → ⊥
+pub expr_or_fault : (text : List ℕ) (start end : ℕ) (pos : Pos) (x : Expr) (f : Fault) → ReadsSpan text start end pos x → IsFirstFaultOfSpan text start end pos f → ⊥
 expr_or_fault text start end pos x f r h =
     let ts : Terminals = terminals_of_span text start end pos in
     no_first IsExpr Nowhere (place_after pos (span_of text start end)) ts.fault ts.tokens f r.faultless (x, r.reads.0, r.reads.1, r.reads.2) h
+
+pub span_fault_same : (text : List ℕ) (start end : ℕ) (pos : Pos) (f g : Fault) → IsFirstFaultOfSpan text start end pos f → IsFirstFaultOfSpan text start end pos g → f ≡ g
+span_fault_same text start end pos f g h k =
+    let ts : Terminals = terminals_of_span text start end pos in
+    one_first IsExpr Nowhere (place_after pos (span_of text start end)) ts.fault ts.tokens f g h k
 
 -- a span has one answer
 pub one_span_answer : (text : List ℕ) (start end : ℕ) (pos : Pos) (a b : Result Expr Fault) → IsSpanAnswer text start end pos a → IsSpanAnswer text start end pos b → a ≡ b

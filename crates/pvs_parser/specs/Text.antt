@@ -208,6 +208,18 @@ Answers text (Ok u) = IsAnswer text (Ok u)
 Answers text (Err (parse_fault.At f)) = IsAnswer text (Err f)
 Answers text (Err parse_fault.Memory) = ⊤
 
+-- such a tree and no other is answered, unless memory runs out
+abbrev pub IsTree : {A : Type 0} → A → Result A ParseFault → Type 0
+IsTree x (Ok y) = y ≡ x
+IsTree x (Err (parse_fault.At f)) = ⊥
+IsTree x (Err parse_fault.Memory) = ⊤
+
+-- such a fault and no other is answered, unless memory runs out
+abbrev pub IsFault : {A : Type 0} → Fault → Result A ParseFault → Type 0
+IsFault f (Ok y) = ⊥
+IsFault f (Err (parse_fault.At g)) = g ≡ f
+IsFault f (Err parse_fault.Memory) = ⊤
+
 -- the script of a proof lies in the text, and its place is that of its first byte
 abbrev pub SpanIn : List ℕ → Item → Type 0
 SpanIn text (item.Theory t) = ⊤

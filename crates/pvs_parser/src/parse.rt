@@ -2,9 +2,10 @@
 
 ghost use Rattle.std.specs.Prelude.{◌≡◌, ◌≤◌, ◌^◌, ℕ, List, Result, length, IfOk};
 ghost use Rattle.pvs_base.specs.declared.code.Fault as fault;
+ghost use Rattle.pvs_syntax.specs.declared.expression.Expr as tree_expr;
 ghost use Rattle.pvs_syntax.specs.declared.unit.Unit as tree;
 ghost use Rattle.pvs_parser.specs.Returns.{Returns};
-ghost use Rattle.pvs_parser.specs.Text.{IsAnswer, Answers, AnswersSpan, SpansIn};
+ghost use Rattle.pvs_parser.specs.Text.{Reads, IsFirstFault, IsAnswer, Answers, ReadsSpan, IsFirstFaultOfSpan, AnswersSpan, IsTree, IsFault, SpansIn};
 ghost use Rattle.pvs_parser.specs.Text as spec;
 
 use crate::descent::expression;
@@ -68,6 +69,9 @@ fn read_span(alloc: Global, text: &[u8], start: u32, end: u32, pos: Pos) -> Resu
 /// Memory is for want of memory alone.
 pub fn parse_unit(alloc: Global, text: &[u8]) -> Result<Unit, ParseFault>
     ensures answer { Answers text.now result }
+    // Where the text is a unit, that one is answered; where it has a first fault, that one is.
+    ensures only { (u : tree.Unit) → Reads text.now u → IsTree u result }
+    ensures first { (f : fault.Fault) → IsFirstFault text.now f → IsFault f result }
     // The script of each proof lies in the text, and its place is that of its first byte.
     ensures spans { IfOk result (λ u. SpansIn text.now u) }
     // A text that reads is no longer than a text may be.
@@ -95,6 +99,9 @@ pub fn parse_expr(
     requires line { pos.line ≤ 2 ^ 30 }
     requires col { pos.col ≤ 2 ^ 30 }
     ensures answer { AnswersSpan text.now start end pos result }
+    // Where the span is an expression, that one is answered; where it has a first fault, that one is.
+    ensures only { (x : tree_expr.Expr) → ReadsSpan text.now start end pos x → IsTree x result }
+    ensures first { (f : fault.Fault) → IsFirstFaultOfSpan text.now start end pos f → IsFault f result }
 {
     read_span(alloc, text, start, end, pos)
 }

@@ -1,4 +1,4 @@
-use Rattle.pvs_parser.proofs.Answers.{unit_answers, unit_spans, unit_short}
+use Rattle.pvs_parser.proofs.Answers.{unit_answers, unit_only, unit_first, unit_spans, unit_short}
 use Rattle.pvs_parser.proofs.parse.parse_unit.Goals as goal
 
 pub returns-clause-answer : goal.returns-clause-answer
@@ -9,3 +9,9 @@ returns-clause-spans c = unit_spans c.args.text.now c.read_text.result c.read_te
 
 pub returns-clause-short : goal.returns-clause-short
 returns-clause-short c = unit_short c.args.text.now c.read_text.result c.read_text.ensures
+
+pub returns-clause-only : goal.returns-clause-only
+returns-clause-only c = unit_only c.args.text.now c.read_text.result c.read_text.ensures
+
+pub returns-clause-first : goal.returns-clause-first
+returns-clause-first c = unit_first c.args.text.now c.read_text.result c.read_text.ensures
