@@ -8,7 +8,7 @@ use Rattle.pvs_cli.specs.Entries.{Entry, EntryKind, Constant, Formula}
 use Rattle.pvs_cli.specs.Theories.{Part, Accepted, Rejected, Proving}
 use Rattle.pvs_cli.specs.Verdicts.{along, names_in, part_proved, verdict}
 use Rattle.pvs_cli.specs.Replaying.{Outcome, Proved, Open, Refused}
-use Rattle.pvs_cli.specs.Lines.{Line, TheoryLine, RefusedLine, TheoryOf}
+use Rattle.pvs_cli.specs.Lines.{Line, TheoryLine}
 use Rattle.pvs_cli.specs.Reporting.{entry_lines, formula_lines, part_lines, proof_line}
 use Rattle.pvs_cli.specs.Printed.{lines_shown}
 use Rattle.pvs_cli.specs.Going.{HasGone, names_of, settled}

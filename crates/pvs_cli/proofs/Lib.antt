@@ -10,6 +10,7 @@ pub mod RepeatLaws
 pub mod PartLaws
 pub mod LemmaLaws
 pub mod GoingLaws
+pub mod ReportOf
 pub mod OutputLaws
 pub mod SoundVerdicts
 pub mod SoundNames

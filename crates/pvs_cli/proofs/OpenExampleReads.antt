@@ -1,14 +1,14 @@
 -- The text of the example reads as its unit.
-use Rattle.std.proofs.Common.{◌≡◌, ap, subst, sym, refl, ℕ, List, [], ◌∷◌, Some, None, Ok, arith}
+use Rattle.std.proofs.Common.{◌≡◌, ap, subst, sym, refl, ℕ, [], ◌∷◌, None, Ok, arith}
 use Rattle.pvs_lexer.specs.Tokens.{tokens_of, longest}
 use Rattle.pvs_lexer.specs.Keywords.{keyword_of}
 use Rattle.pvs_parser.specs.declared.terminal.Connective.TheVariants as connective
 use Rattle.pvs_parser.specs.declared.terminal.Terminal.{Terminal}
 use Rattle.pvs_parser.specs.declared.terminal.TerminalKind.{TerminalKind}
 use Rattle.pvs_parser.specs.declared.terminal.TerminalKind.TheVariants as kind
-use Rattle.pvs_parser.specs.Language.{Derives, Plain, Chain, Operand, Term, bounded, outermost, named, whole as expression}
+use Rattle.pvs_parser.specs.Language.{Derives, Plain, bounded, outermost, whole as expression}
 use Rattle.pvs_parser.specs.Units.{DerivesIds, DerivesFormalPart, DerivesAssuming, DerivesDecl, DerivesSemicolon, DerivesMany, DerivesTheory, DerivesItems}
-use Rattle.pvs_parser.specs.Text.{Terminals, terminals_of_text, Reads, IsAnswer}
+use Rattle.pvs_parser.specs.Text.{Terminals, terminals_of_text, IsAnswer}
 use Rattle.pvs_syntax.specs.declared.expression.TypeExpr.TheVariants as type_expr
 use Rattle.pvs_cli.specs.OpenExample.{bytes, l_decl, p_decl, plain, says_p, small, whole, word}
 

@@ -1,10 +1,9 @@
 -- How far on a place of a text can be.
 use Rattle.std.proofs.Common.{◌≡◌, ◌+◌, ◌≤◌, ℕ, Bool, true, false, not, List, length, take, reverse, if◌then◌else◌, refl, arith}
-use Rattle.std.specs.Prelude.{count_by}
 use Rattle.std.specs.List.{list_any, prefix_len, take_while}
 use Rattle.std.proofs.lemmas.List.{length-reverse, length-take}
 use Rattle.std.proofs.lemmas.List.Sums.{count_by-le-length}
-use Rattle.pvs_base.specs.Place.{ends_line, last_line, place_at}
+use Rattle.pvs_base.specs.Place.{ends_line, place_at}
 
 length-take_while : {X : Type 0} (p : X → Bool) (xs : List X) → length (take_while p xs) ≤ length xs
 length-take_while p xs = omega (arith, length-take (prefix_len p xs) xs)

@@ -17,7 +17,7 @@ use Rattle.pvs_cli.specs.declared.distinct.Declared.{Declared}
 use Rattle.pvs_cli.specs.declared.distinct.Declared.TheVariants as declared
 use Rattle.pvs_cli.specs.Names.{spelling}
 use Rattle.pvs_cli.specs.Entries.{Entry, EntryKind, Constant, Formula, ◌>>=◌, core, named, entries_after, entries_of}
-use Rattle.pvs_cli.specs.Theories.{constant_names, declared_by, first_repeated, formula_name, formula_names, has_name, repeated, repeated_in}
+use Rattle.pvs_cli.specs.Theories.{declared_by, first_repeated, formula_name, formula_names, has_name, repeated}
 use Rattle.pvs_cli.specs.Verdicts.{lemma_formula, lemma_of, or_else, lemma_named}
 use Rattle.pvs_cli.proofs.IndexLaws.{any_push}
 use Rattle.pvs_cli.proofs.Loops.{flat_push}

@@ -1,11 +1,10 @@
 -- A lemma that is printed open and is not true: p is a constant, and the lemma l says p.
-use Rattle.std.proofs.Common.{◌≡◌, ◌∙◌, refl, sym, ap, subst, ◌&&◌, ℕ, zero, suc, Bool, true, false, not, is_some, if◌then◌else◌, List, [], ◌∷◌, ◌++◌, Contains, arith, codes, Option, Some, None, Result, Ok, Err}
+use Rattle.std.proofs.Common.{◌≡◌, ◌∙◌, refl, sym, ap, subst, ◌&&◌, ℕ, zero, suc, Bool, true, false, not, is_some, if◌then◌else◌, List, [], ◌∷◌, Contains, arith, codes, Option, Some, None, Result, Ok, Err}
 use Rattle.std.specs.Prelude.{⊤}
 use Rattle.std.proofs.lemmas.List.Elements.{Contains-append_left}
 use Rattle.pvs_base.specs.declared.code.Fault.{Fault}
 use Rattle.pvs_base.specs.declared.place.Pos.{Pos}
 use Rattle.pvs_syntax.specs.declared.word.Word.{Word}
-use Rattle.pvs_syntax.specs.declared.expression.NameExpr.{NameExpr}
 use Rattle.pvs_syntax.specs.declared.expression.Expr.TheVariants as expr
 use Rattle.pvs_syntax.specs.declared.expression.TypeExpr.TheVariants as type_expr
 use Rattle.pvs_syntax.specs.declared.expression.Actual.TheOpen.{Expr-F, TypeExpr-F}
@@ -17,12 +16,12 @@ use Rattle.pvs_sem.specs.Truth.{Interpretation}
 use Rattle.pvs_cli.specs.Forms as forms
 use Rattle.pvs_cli.specs.Entries.{Entry, Constant, Formula, ◌>>=◌, core, entries_after, entries_of, named, named_constant, not_built}
 use Rattle.pvs_cli.specs.Entries as entries_spec
-use Rattle.pvs_cli.specs.Theories.{Part, first_repeated, once, parts_of, theory_entries, theory_part}
+use Rattle.pvs_cli.specs.Theories.{first_repeated, once, theory_entries, theory_part}
 use Rattle.pvs_cli.specs.Lines.{Line, FormulaLine, TotalLine, OpenWord, totals_of}
 use Rattle.pvs_cli.specs.Reporting.{of_text, parts_lines, unit_lines, with_total}
 use Rattle.pvs_cli.specs.Soundness.{Fits}
-use Rattle.pvs_cli.specs.SoundFacts.{IsOpenAndFalse, ReportedCanBeFalse}
-use Rattle.pvs_cli.specs.OpenExample.{bytes, l_decl, p_decl, plain, says_p, small, whole, word}
+use Rattle.pvs_cli.specs.SoundFacts.{ReportedCanBeFalse}
+use Rattle.pvs_cli.specs.OpenExample.{bytes, plain, says_p, small, whole, word}
 
 -- ---- A plain name.
 

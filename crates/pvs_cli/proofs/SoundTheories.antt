@@ -1,5 +1,5 @@
 -- The lemma of an accepted theory is the one that its name finds in the unit.
-use Rattle.std.proofs.Common.{◌≡◌, ◌∙◌, refl, sym, ap, ℕ, Bool, true, false, not, ◌||◌, bytes_eq, if◌then◌else◌, List, [], ◌∷◌, ◌++◌, slice_get, Option, Some, None, Result, Ok, Err}
+use Rattle.std.proofs.Common.{◌≡◌, ◌∙◌, refl, ap, ℕ, Bool, true, false, not, ◌||◌, bytes_eq, if◌then◌else◌, List, [], ◌∷◌, ◌++◌, slice_get, Option, Some, None, Result, Ok, Err}
 use Rattle.std.specs.Cmp.Lexicographic.{bytes_decides}
 use Rattle.std.proofs.lemmas.Cmp.{nat_list_eq_equiv}
 use Rattle.pvs_base.specs.declared.code.Fault.{Fault}
@@ -13,7 +13,7 @@ use Rattle.pvs_cli.specs.Names.{FormulaName, spelling}
 use Rattle.pvs_cli.specs.Forms.{is_built_theory}
 use Rattle.pvs_cli.specs.Entries.{Entry, Formula, entries_of, not_built}
 use Rattle.pvs_cli.specs.Theories.{Part, duplicate, first_repeated, has_name, once, part_of, parts_after, parts_of, theory_entries, theory_names, theory_part, told_entries}
-use Rattle.pvs_cli.specs.Verdicts.{lemma_in, lemma_named, or_else, part_lemma, theory_lemma}
+use Rattle.pvs_cli.specs.Verdicts.{lemma_in, lemma_named, or_else, part_lemma}
 use Rattle.pvs_cli.proofs.LemmaLaws.{lemma_in-append}
 use Rattle.pvs_cli.proofs.PartLaws.{parts_split}
 use Rattle.pvs_cli.proofs.SoundNames.{are_distinct, distinct_names, entry_names, found_by_name, names_of_entries}

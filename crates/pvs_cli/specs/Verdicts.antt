@@ -11,7 +11,7 @@ use Rattle.pvs_script.specs.Reading.{script_of}
 use Rattle.pvs_terms.specs.Tree.{Tree}
 use Rattle.pvs_sem.specs.Sequents.{Sequent}
 use Rattle.pvs_cli.specs.Names.{FormulaName, is_among, named_by}
-use Rattle.pvs_cli.specs.Entries.{Entry, EntryKind, Constant, Formula}
+use Rattle.pvs_cli.specs.Entries.{Entry, EntryKind, Formula}
 use Rattle.pvs_cli.specs.Theories.{Part, Accepted, Rejected, Proving}
 use Rattle.pvs_cli.specs.Replaying.{Outcome, Proved, Open, Refused, refused, replay}
 

@@ -1,4 +1,4 @@
-use Rattle.std.proofs.Common.{◌≡◌, ◌<◌, length, take, rules, sym, subst}
+use Rattle.std.proofs.Common.{◌<◌, length, take, rules, sym, subst}
 use Rattle.pvs_cli.specs.Going.{HasGone}
 use Rattle.pvs_cli.specs.Shown.{part_shown, parts_shown}
 use Rattle.pvs_cli.proofs.Loops.{shown_more}

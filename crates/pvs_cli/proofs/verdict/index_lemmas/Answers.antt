@@ -1,4 +1,4 @@
-use Rattle.std.proofs.Common.{◌≡◌, ◌<◌, ◌∙◌, length, take, rules, ap, sym}
+use Rattle.std.proofs.Common.{◌<◌, ◌∙◌, length, take, rules, ap, sym}
 use Rattle.pvs_cli.specs.LemmaIndex.{tree_at}
 use Rattle.pvs_cli.specs.Shown.{part_shown, parts_shown}
 use Rattle.pvs_cli.specs.Verdicts.{lemma_in}

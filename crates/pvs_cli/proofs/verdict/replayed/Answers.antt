@@ -1,6 +1,5 @@
-use Rattle.std.proofs.Common.{◌≤◌, ◌+◌, length, ap, arith}
+use Rattle.std.proofs.Common.{ap, arith}
 use Rattle.pvs_base.specs.declared.place.Pos.{Pos}
-use Rattle.pvs_base.specs.Place.{place_at}
 use Rattle.pvs_cli.proofs.PlaceBounds.{col_bound, line_bound}
 use Rattle.pvs_cli.proofs.verdict.replayed.Goals as goal
 

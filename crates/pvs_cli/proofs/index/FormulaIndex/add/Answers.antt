@@ -1,8 +1,7 @@
 use Rattle.std.proofs.Common.{◌≡◌, ◌∙◌, None, Some, cond, rules, ap}
-use Rattle.std.specs.Borrow.{Bor}
 use Rattle.pvs_cli.specs.Index.{formula_value}
 use Rattle.pvs_cli.specs.Names.{FormulaName, is_same}
-use Rattle.pvs_cli.proofs.IndexLaws.{is_eq-formula, same_formula, value_more, value_stays}
+use Rattle.pvs_cli.proofs.IndexLaws.{is_eq-formula, same_formula, value_more}
 use Rattle.pvs_cli.proofs.index.FormulaIndex.add.Goals as goal
 
 pub returns-in_ok-insert : goal.returns-in_ok-insert
