@@ -21,15 +21,15 @@ below room = record { limit = bounded; expr = (reader bounded room).expr; type =
 abbrev pub Returned : Type 0 → Type 0
 Returned A = Result (A × Nesting × Bor Tokens) Failure
 
-pub record Nests (room : ℕ) (pre_expr : Global → ℕ → Start → Nesting → Bor Tokens → Type 0)
-    (post_expr : Global → ℕ → Start → Nesting → Bor Tokens → Returned Expr → Type 0)
-    (pre_type : Global → ℕ → Nesting → Bor Tokens → Type 0)
-    (post_type : Global → ℕ → Nesting → Bor Tokens → Returned TypeExpr → Type 0) : Type 0 where
-  pub expr_callable : (alloc : Global) (s : Start) (l : Nesting) (ts : Bor Tokens) → pre_expr alloc room s l ts
-  pub expr_gives : (alloc : Global) (s : Start) (l : Nesting) (ts : Bor Tokens) (r : Returned Expr) → post_expr alloc room s l ts r
+pub record Nests (room : ℕ) (pre_expr : Global → ℕ → ℕ → Start → Nesting → Bor Tokens → Type 0)
+    (post_expr : Global → ℕ → ℕ → Start → Nesting → Bor Tokens → Returned Expr → Type 0)
+    (pre_type : Global → ℕ → ℕ → Nesting → Bor Tokens → Type 0)
+    (post_type : Global → ℕ → ℕ → Nesting → Bor Tokens → Returned TypeExpr → Type 0) : Type 0 where
+  pub expr_callable : (alloc : Global) (calls : ℕ) (s : Start) (l : Nesting) (ts : Bor Tokens) → pre_expr alloc calls room s l ts
+  pub expr_gives : (alloc : Global) (calls : ℕ) (s : Start) (l : Nesting) (ts : Bor Tokens) (r : Returned Expr) → post_expr alloc calls room s l ts r
       → Gives (λ p. (p.0, p.1, p.2.now)) r ((reader bounded room).expr s l ts.now)
-  pub type_callable : (alloc : Global) (l : Nesting) (ts : Bor Tokens) → pre_type alloc room l ts
-  pub type_gives : (alloc : Global) (l : Nesting) (ts : Bor Tokens) (r : Returned TypeExpr) → post_type alloc room l ts r
+  pub type_callable : (alloc : Global) (calls : ℕ) (l : Nesting) (ts : Bor Tokens) → pre_type alloc calls room l ts
+  pub type_gives : (alloc : Global) (calls : ℕ) (l : Nesting) (ts : Bor Tokens) (r : Returned TypeExpr) → post_type alloc calls room l ts r
       → Gives (λ p. (p.0, p.1, p.2.now)) r ((reader bounded room).type l ts.now)
 
 -- whether such a terminal comes next

@@ -15,8 +15,8 @@ use std::alloc::Global;
 
 impl<E, T> Descent<E, T>
 where
-    E: Fn(Global, usize, Start, Nesting, &[Terminal]) -> Read<'_, Expr>,
-    T: Fn(Global, usize, Nesting, &[Terminal]) -> Read<'_, TypeExpr>,
+    E: Fn(Global, usize, usize, Start, Nesting, &[Terminal]) -> Read<'_, Expr>,
+    T: Fn(Global, usize, usize, Nesting, &[Terminal]) -> Read<'_, TypeExpr>,
 {
     /// What stands behind ELSE.
     fn else_branch<'a>(&self, nesting: Nesting, tokens: &'a [Terminal]) -> Read<'a, Expr>

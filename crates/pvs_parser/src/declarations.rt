@@ -44,6 +44,7 @@ fn expr(alloc: Global, tokens: &[Terminal]) -> Result<(Expr, &[Terminal]), Failu
 {
     let (expr, _, rest) = descent::expr(
         alloc,
+        descent::CALLS,
         tokens.len() + 1,
         Start::Chain(Connective::Iff),
         Nesting::OUTERMOST,

@@ -16,6 +16,11 @@ use pvs_syntax::{Actual, Binding, Expr, TypeExpr};
 use sqlite_items::Items;
 use std::alloc::Global;
 
+/// How many calls of `expr` and `type_expr` may stand inside one another. The level of a text does
+/// not bound them, since a comma clears marks whose forms are still open: this bound keeps the stack
+/// within a few MiB, and a text past it is one for which memory ran out.
+pub const CALLS: usize = 1000;
+
 /// A tree, with the nesting behind it and the tokens after it.
 pub type Read<'a, A> = Result<(A, Nesting, &'a [Terminal]), Failure>;
 
@@ -23,6 +28,8 @@ pub type Read<'a, A> = Result<(A, Nesting, &'a [Terminal]), Failure>;
 #[derive(Clone, Copy)]
 pub struct Descent<E, T> {
     pub alloc: Global,
+    /// How many calls may stand inside one another.
+    pub calls: usize,
     /// How many forms may stand inside one another.
     pub room: usize,
     pub expr: E,
@@ -31,8 +38,8 @@ pub struct Descent<E, T> {
 
 impl<E, T> Descent<E, T>
 where
-    E: Fn(Global, usize, Start, Nesting, &[Terminal]) -> Read<'_, Expr>,
-    T: Fn(Global, usize, Nesting, &[Terminal]) -> Read<'_, TypeExpr>,
+    E: Fn(Global, usize, usize, Start, Nesting, &[Terminal]) -> Read<'_, Expr>,
+    T: Fn(Global, usize, usize, Nesting, &[Terminal]) -> Read<'_, TypeExpr>,
 {
     pub fn start<'a>(
         &self,
@@ -43,7 +50,7 @@ where
         requires { Nests self.now.room (E.pre self.now.expr) (E.post self.now.expr) (T.pre self.now.ty) (T.post self.now.ty) }
         ensures { Gives (λ p. (p.0, p.1, p.2.now)) result ((below self.now.room).expr start nesting tokens.now) }
     {
-        (self.expr)(self.alloc, self.room, start, nesting, tokens)
+        (self.expr)(self.alloc, self.calls, self.room, start, nesting, tokens)
     }
 
     /// A whole expression.
@@ -58,7 +65,7 @@ where
         requires { Nests self.now.room (E.pre self.now.expr) (E.post self.now.expr) (T.pre self.now.ty) (T.post self.now.ty) }
         ensures { Gives (λ p. (p.0, p.1, p.2.now)) result ((below self.now.room).type nesting tokens.now) }
     {
-        (self.ty)(self.alloc, self.room, nesting, tokens)
+        (self.ty)(self.alloc, self.calls, self.room, nesting, tokens)
     }
 
     /// What begins with `start`.
@@ -79,10 +86,11 @@ where
     }
 }
 
-/// What begins with `start`, with at most `room` forms inside one another.
+/// What begins with `start`, with at most `calls` calls and `room` forms inside one another.
 #[cycle(descent)]
 pub fn expr(
     alloc: Global,
+    calls: usize,
     room: usize,
     start: Start,
     nesting: Nesting,
@@ -90,11 +98,15 @@ pub fn expr(
 ) -> Read<'_, Expr>
     ensures { Gives (λ p. (p.0, p.1, p.2.now)) result ((reader bounded room).expr start nesting tokens.now) }
 {
+    if calls == 0 {
+        return Err(Failure::Memory);
+    }
     if room == 0 {
         return Err(stop(tokens));
     }
     Descent {
         alloc,
+        calls: calls - 1,
         room: room - 1,
         expr,
         ty: type_expr,
@@ -102,21 +114,26 @@ pub fn expr(
     .expr_rule(start, nesting, tokens)
 }
 
-/// A type, with at most `room` forms inside one another.
+/// A type, with at most `calls` calls and `room` forms inside one another.
 #[cycle(descent)]
 pub fn type_expr(
     alloc: Global,
+    calls: usize,
     room: usize,
     nesting: Nesting,
     tokens: &[Terminal],
 ) -> Read<'_, TypeExpr>
     ensures { Gives (λ p. (p.0, p.1, p.2.now)) result ((reader bounded room).type nesting tokens.now) }
 {
+    if calls == 0 {
+        return Err(Failure::Memory);
+    }
     if room == 0 {
         return Err(stop(tokens));
     }
     Descent {
         alloc,
+        calls: calls - 1,
         room: room - 1,
         expr,
         ty: type_expr,
@@ -135,6 +152,7 @@ pub fn bindings(
 {
     Descent {
         alloc,
+        calls: CALLS,
         room,
         expr,
         ty: type_expr,
@@ -153,6 +171,7 @@ pub fn actuals(
 {
     Descent {
         alloc,
+        calls: CALLS,
         room,
         expr,
         ty: type_expr,
@@ -165,6 +184,13 @@ pub fn expression(alloc: Global, tokens: &[Terminal]) -> Result<Expr, Failure>
     ensures { Gives (λ x. x) result (spec.expression bounded tokens.now) }
 {
     let start = Start::Chain(Connective::Iff);
-    let (tree, _, rest) = expr(alloc, tokens.len() + 1, start, Nesting::OUTERMOST, tokens)?;
+    let (tree, _, rest) = expr(
+        alloc,
+        CALLS,
+        tokens.len() + 1,
+        start,
+        Nesting::OUTERMOST,
+        tokens,
+    )?;
     ended(tree, rest)
 }

@@ -7,7 +7,7 @@ ghost use Rattle.pvs_parser.specs.Steps.{each};
 ghost use Rattle.pvs_parser.specs.Units.{type_formal, const_formal};
 ghost use Rattle.pvs_parser.specs.UnitDescent as spec;
 
-use crate::descent::type_expr;
+use crate::descent::{CALLS, type_expr};
 use crate::failure::Failure;
 use crate::importings::ids;
 use crate::lists::crowded;
@@ -30,7 +30,7 @@ pub fn type_of(
 ) -> Result<(TypeExpr, &[Terminal]), Failure>
     ensures { Gives (λ p. (p.0, p.1.now)) result (spec.type bounded nesting tokens.now) }
 {
-    let (ty, _, rest) = type_expr(alloc, tokens.len() + 1, nesting, tokens)?;
+    let (ty, _, rest) = type_expr(alloc, CALLS, tokens.len() + 1, nesting, tokens)?;
     Ok((ty, rest))
 }
 

@@ -34,8 +34,8 @@ pub fn crowded(is_start: bool, tokens: &[Terminal]) -> Failure
 
 impl<E, T> Descent<E, T>
 where
-    E: Fn(Global, usize, Start, Nesting, &[Terminal]) -> Read<'_, Expr>,
-    T: Fn(Global, usize, Nesting, &[Terminal]) -> Read<'_, TypeExpr>,
+    E: Fn(Global, usize, usize, Start, Nesting, &[Terminal]) -> Read<'_, Expr>,
+    T: Fn(Global, usize, usize, Nesting, &[Terminal]) -> Read<'_, TypeExpr>,
 {
     /// Expressions.
     fn exprs<'a>(&self, nesting: Nesting, tokens: &'a [Terminal]) -> Read<'a, Items<Expr>>

@@ -17,8 +17,8 @@ use std::alloc::Global;
 
 impl<E, T> Descent<E, T>
 where
-    E: Fn(Global, usize, Start, Nesting, &[Terminal]) -> Read<'_, Expr>,
-    T: Fn(Global, usize, Nesting, &[Terminal]) -> Read<'_, TypeExpr>,
+    E: Fn(Global, usize, usize, Start, Nesting, &[Terminal]) -> Read<'_, Expr>,
+    T: Fn(Global, usize, usize, Nesting, &[Terminal]) -> Read<'_, TypeExpr>,
 {
     /// Terms with `=` and `/=` between them. The last may be what NOT, a binder or LET begins.
     fn comparison<'a>(&self, nesting: Nesting, tokens: &'a [Terminal]) -> Read<'a, Expr>

@@ -66,7 +66,8 @@ fn read_span(alloc: Global, text: &[u8], start: u32, end: u32, pos: Pos) -> Resu
 ///   list;
 /// - WrongEnd, at an identifier behind END that is not the name of the theory.
 ///
-/// Memory is for want of memory alone.
+/// Memory is for want of memory alone, that of the stack among it: a text whose reading would nest
+/// more than 1,000 calls wants more. Only texts do in which commas clear the marks of open forms.
 pub fn parse_unit(alloc: Global, text: &[u8]) -> Result<Unit, ParseFault>
     ensures answer { Answers text.now result }
     // Where the text is a unit, that one is answered; where it has a first fault, that one is.
@@ -85,7 +86,7 @@ pub fn parse_unit(alloc: Global, text: &[u8]) -> Result<Unit, ParseFault>
 ///
 /// Otherwise the first fault: BadByte, UnclosedQuote, Unexpected, OutOfProfile or TooNested, each
 /// where `parse_unit` has it, with an expression in place of a unit. The place after the last byte
-/// is that after the span. Memory is for want of memory alone.
+/// is that after the span. Memory is for want of memory alone, as in `parse_unit`.
 pub fn parse_expr(
     alloc: Global,
     text: &[u8],

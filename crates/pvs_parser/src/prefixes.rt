@@ -16,8 +16,8 @@ use std::alloc::Global;
 
 impl<E, T> Descent<E, T>
 where
-    E: Fn(Global, usize, Start, Nesting, &[Terminal]) -> Read<'_, Expr>,
-    T: Fn(Global, usize, Nesting, &[Terminal]) -> Read<'_, TypeExpr>,
+    E: Fn(Global, usize, usize, Start, Nesting, &[Terminal]) -> Read<'_, Expr>,
+    T: Fn(Global, usize, usize, Nesting, &[Terminal]) -> Read<'_, TypeExpr>,
 {
     /// The body of a binder, behind its variables.
     fn body<'a>(

@@ -21,8 +21,8 @@ type First<'a> = Result<(Expr, bool, &'a [Terminal]), Failure>;
 
 impl<E, T> Descent<E, T>
 where
-    E: Fn(Global, usize, Start, Nesting, &[Terminal]) -> Read<'_, Expr>,
-    T: Fn(Global, usize, Nesting, &[Terminal]) -> Read<'_, TypeExpr>,
+    E: Fn(Global, usize, usize, Start, Nesting, &[Terminal]) -> Read<'_, Expr>,
+    T: Fn(Global, usize, usize, Nesting, &[Terminal]) -> Read<'_, TypeExpr>,
 {
     /// What a parenthesis opens.
     fn group<'a>(&self, nesting: Nesting, word: Word, tokens: &'a [Terminal]) -> First<'a>

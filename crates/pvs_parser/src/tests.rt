@@ -608,6 +608,30 @@ fn limits(rt: HostRuntime) -> Result<(), Fail> {
     Ok(())
 }
 
+/// A formula of so many groups, each of 150 NOTs that nest and a comma that clears their marks.
+fn nested_nots(alloc: Global, groups: u32) -> Result<Vec<u8>, AllocError> {
+    let mut text = Vec::new(alloc);
+    text.extend_from_slice(b"t: THEORY BEGIN\nl: LEMMA ")?;
+    for _ in 0..groups {
+        for _ in 0..150 {
+            text.extend_from_slice(b"NOT ")?;
+        }
+        text.extend_from_slice(b"FORALL x, y: ")?;
+    }
+    text.extend_from_slice(b"a\nEND t")?;
+    Ok(text)
+}
+
+#[test]
+fn nested_calls(rt: HostRuntime) -> Result<(), Fail> {
+    let alloc = rt.alloc();
+    let read = parse_unit(alloc, &nested_nots(alloc, 6)?);
+    assert!(rt; read.is_ok());
+    let read = parse_unit(alloc, &nested_nots(alloc, 7)?);
+    assert!(rt; matches!(read, Err(ParseFault::Memory)));
+    Ok(())
+}
+
 #[test]
 fn length_of_texts(rt: HostRuntime) -> Result<(), Fail> {
     let alloc = rt.alloc();
