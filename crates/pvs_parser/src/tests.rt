@@ -105,7 +105,19 @@ x` ~> Unexpected@1:3
 IF a THEN b ENDIF ~> Unexpected@1:13
 IF a ELSE b ENDIF ~> Unexpected@1:6
 NOT ~> Unexpected@1:4
+AND a ~> Unexpected@1:1
+a AND AND b ~> Unexpected@1:7
+f() ~> Unexpected@1:3
+f(a b) ~> Unexpected@1:5
+(a b) ~> Unexpected@1:4
+IF THEN b ~> Unexpected@1:4
+IF a b ~> Unexpected@1:6
+IF a THEN b ELSE c ~> Unexpected@1:19
+IF a THEN b ELSIF c ELSE d ENDIF ~> Unexpected@1:21
 FORALL : p ~> Unexpected@1:8
+FORALL x, y p ~> Unexpected@1:13
+FORALL (x p): q ~> Unexpected@1:11
+FORALL x: ~> Unexpected@1:10
 FORALL (): p ~> Unexpected@1:9
 FORALL (x, ): p ~> Unexpected@1:12
 FORALL x, : p ~> Unexpected@1:11
@@ -113,7 +125,10 @@ FORALL x: t: p ~> Unexpected@1:12
 FORALL (x: [a]): p ~> Unexpected@1:14
 FORALL (x: {y | p}): q ~> Unexpected@1:15
 FORALL (x: {y: t}): q ~> Unexpected@1:17
+LET = a IN b ~> Unexpected@1:5
 LET x a IN b ~> Unexpected@1:7
+LET x: = a IN b ~> Unexpected@1:8
+LET x = a IN ~> Unexpected@1:13
 LET x = a, IN b ~> Unexpected@1:12
 LET x = a ~> Unexpected@1:10
 a + b ~> OutOfProfile@1:3
@@ -230,6 +245,63 @@ const PROOFS: &str = "\
 (proof t.a (skip))) ~> Unexpected@1:19
 ) ~> Unexpected@1:1
 \" ~> UnclosedQuote@1:1
+";
+
+/// Where the lines of the grammar stop, in its order: behind nothing of a line, behind its first part,
+/// and before its last.
+const STOPS: &str = "\
+1 ~> OutOfProfile@1:1
+THEORY ~> Unexpected@1:1
+t; ~> Unexpected@1:2
+t: THEORY BEGIN END END ~> Unexpected@1:21
+t: THEORY BEGIN END t ] ~> Unexpected@1:23
+t[: TYPE ~> Unexpected@1:3
+t[c TYPE ~> Unexpected@1:5
+t[c: THEORY ~> Unexpected@1:6
+t[c d ~> Unexpected@1:5
+t[c, : ~> Unexpected@1:6
+t: THEORY BEGIN ASSUMING : ~> Unexpected@1:26
+t: THEORY BEGIN ASSUMING x VAR ~> Unexpected@1:28
+t: THEORY BEGIN ASSUMING x: AXIOM ~> Unexpected@1:29
+t: THEORY BEGIN ASSUMING x: VAR ; ~> Unexpected@1:33
+t: THEORY BEGIN ASSUMING h: ASSUMPTION ENDASSUMING ~> Unexpected@1:40
+t: THEORY IMPORTING ~> Unexpected@1:11
+t: THEORY BEGIN IMPORTING BEGIN ~> Unexpected@1:27
+t: THEORY BEGIN IMPORTING a, ; ~> Unexpected@1:30
+t: THEORY BEGIN IMPORTING a[] ~> Unexpected@1:29
+t: THEORY BEGIN IMPORTING a[b; ~> Unexpected@1:30
+t: THEORY BEGIN IMPORTING a[b, ] ~> Unexpected@1:32
+t: THEORY BEGIN IMPORTING a[TYPE ~> Unexpected@1:29
+t: THEORY BEGIN IMPORTING a[[x ] ~> Unexpected@1:32
+t: THEORY BEGIN IMPORTING a[{x y ~> Unexpected@1:32
+t: THEORY BEGIN TYPE ~> Unexpected@1:17
+t: THEORY BEGIN c = ~> Unexpected@1:19
+t: THEORY BEGIN c: END ~> Unexpected@1:20
+t: THEORY BEGIN T: TYPE = END ~> Unexpected@1:27
+t: THEORY BEGIN x: VAR END ~> Unexpected@1:24
+t: THEORY BEGIN f(x): T = END ~> Unexpected@1:27
+t: THEORY BEGIN l: LEMMA END ~> Unexpected@1:26
+t[c: () ~> Unexpected@1:7
+t[c: (x, ~> Unexpected@1:8
+t[c: {T} ~> Unexpected@1:8
+t[c: {x: | ~> Unexpected@1:10
+t[c: {x: T} ~> Unexpected@1:11
+t[c: {x: T | } ~> Unexpected@1:14
+t[c: {x: T | p] ~> Unexpected@1:15
+t[c: [: ~> Unexpected@1:7
+t[c: [T] ~> Unexpected@1:8
+t[c: [T, ] ~> Unexpected@1:10
+t[c: [T -> ] ~> Unexpected@1:12
+t[c: [T -> T, ~> Unexpected@1:13
+t[c: [x: ] ~> Unexpected@1:10
+t[c: th. ] ~> Unexpected@1:10
+t[c: th[a] ] ~> Unexpected@1:12
+t: THEORY BEGIN f( : ~> Unexpected@1:20
+t: THEORY BEGIN f(: ~> OutOfProfile@1:18
+t: THEORY BEGIN f(x T ~> Unexpected@1:21
+t: THEORY BEGIN f(x: ) ~> Unexpected@1:22
+(proof t a ~> Unexpected@1:10
+(proof t. (skip)) ~> Unexpected@1:11
 ";
 
 fn shown_fault(alloc: Global, fault: &Fault) -> Result<String, AllocError> {
@@ -362,6 +434,7 @@ fn units(rt: HostRuntime) -> Result<(), Fail> {
     let alloc = rt.alloc();
     assert_eq!(rt; wrong(alloc, DECLARATIONS, Kind::Declarations)?, "");
     assert_eq!(rt; wrong(alloc, THEORIES, Kind::Unit)?, "");
+    assert_eq!(rt; wrong(alloc, STOPS, Kind::Unit)?, "");
     assert_eq!(rt; wrong(alloc, PROOFS, Kind::Unit)?, "");
     Ok(())
 }
