@@ -40,6 +40,8 @@ a IMPLIES b IMPLIES c ~> (=> a (=> b c))
 a IFF b IFF c ~> (<=> a (<=> b c))
 a = b = c ~> (= (= a b) c)
 a /= b = c ~> (= (/= a b) c)
+a = b /= c ~> (/= (= a b) c)
+a /= b /= c ~> (/= (/= a b) c)
 a AND b OR c ~> (| (& a b) c)
 a OR b AND c ~> (| a (& b c))
 a AND b => c ~> (=> (& a b) c)
@@ -54,19 +56,42 @@ a => b <=> c ~> (<=> (=> a b) c)
 a <=> b => c ~> (<=> a (=> b c))
 a = b AND c ~> (& (= a b) c)
 a AND b = c ~> (& a (= b c))
-a /= b <=> c ~> (<=> (/= a b) c)
+a OR b = c ~> (| a (= b c))
+a = b OR c ~> (| (= a b) c)
+a => b = c ~> (=> a (= b c))
+a = b => c ~> (=> (= a b) c)
+a <=> b = c ~> (<=> a (= b c))
+a = b <=> c ~> (<=> (= a b) c)
+a AND b /= c ~> (& a (/= b c))
+a /= b AND c ~> (& (/= a b) c)
+a OR b /= c ~> (| a (/= b c))
+a /= b OR c ~> (| (/= a b) c)
+a => b /= c ~> (=> a (/= b c))
+a /= b => c ~> (=> (/= a b) c)
 a <=> b /= c ~> (<=> a (/= b c))
+a /= b <=> c ~> (<=> (/= a b) c)
 a & b /\\ c \\/ d ~> (| (& a (& b c)) d)
 NOT a = b ~> (~ (= a b))
 NOT a AND b ~> (& (~ a) b)
 NOT NOT a ~> (~ (~ a))
+a = NOT b = c ~> (= a (~ (= b c)))
+a = NOT b AND c ~> (& (= a (~ b)) c)
+a /= b = NOT NOT c ~> (= (/= a b) (~ (~ c)))
 ";
 
 /// Binders, LET, and types.
 const BINDERS: &str = "\
 FORALL x: a AND b ~> (all x (& a b))
 a AND FORALL x: b OR c ~> (& a (all x (| b c)))
+a AND LET x = b IN c AND d ~> (& a (let x=b (& c d)))
+a OR EXISTS x: b OR c ~> (| a (some x (| b c)))
 a OR LET x = b IN c => d ~> (| a (let x=b (=> c d)))
+a => FORALL x: b => c ~> (=> a (all x (=> b c)))
+a => LET x = b IN c <=> d ~> (=> a (let x=b (<=> c d)))
+a <=> LAMBDA x: b <=> c ~> (<=> a (fun x (<=> b c)))
+a <=> LET x = b IN c <=> d ~> (<=> a (let x=b (<=> c d)))
+a = b = LET x = c IN d AND e ~> (= (= a b) (let x=c (& d e)))
+a /= FORALL x: b = c ~> (/= a (all x (= b c)))
 NOT EXISTS x, y: p ~> (~ (some x y p))
 a = LAMBDA x: b IFF c ~> (= a (fun x (<=> b c)))
 FORALL (x: t, y, z: [a -> b]): p ~> (all x:t y z:(-> :a b) p)
@@ -489,7 +514,7 @@ fn stop(alloc: Global, pieces: &Pieces, times: u32) -> Result<String, AllocError
 }
 
 /// Texts, how many pieces they may have at most, and the first fault with one more.
-const LIMITS: [(Pieces, u32, &str); 21] = [
+const LIMITS: [(Pieces, u32, &str); 31] = [
     (
         [b"t: THEORY BEGIN\n", b"a, ", b"a: TYPE", b"", b"\nEND t"],
         199,
@@ -663,6 +688,116 @@ const LIMITS: [(Pieces, u32, &str); 21] = [
         "TooNested@1:802",
     ),
     (
+        [
+            b"t: THEORY BEGIN\nl: LEMMA (",
+            b"a, ",
+            b"a",
+            b"",
+            b")\nEND t",
+        ],
+        199,
+        "TooNested@2:611",
+    ),
+    (
+        [
+            b"t: THEORY BEGIN\nl: LEMMA FORALL (",
+            b"a, ",
+            b"a",
+            b"",
+            b"): c\nEND t",
+        ],
+        199,
+        "TooNested@2:618",
+    ),
+    (
+        [
+            b"t: THEORY BEGIN\nl: LEMMA IF a THEN b ",
+            b"ELSIF c THEN d ",
+            b"ELSE e ENDIF",
+            b"",
+            b"\nEND t",
+        ],
+        199,
+        "TooNested@2:3007",
+    ),
+    (
+        [
+            b"t: THEORY BEGIN\nc: ",
+            b"{x: ",
+            b"T",
+            b" | p}",
+            b"\nEND t",
+        ],
+        200,
+        "TooNested@2:804",
+    ),
+    (
+        [
+            b"t: THEORY BEGIN\nl: LEMMA IF ",
+            b"NOT ",
+            b"a THEN ",
+            b"NOT ",
+            b"b ELSE c ENDIF\nEND t",
+        ],
+        199,
+        "TooNested@2:809",
+    ),
+    (
+        [
+            b"t: THEORY BEGIN\nl: LEMMA IF a THEN ",
+            b"NOT ",
+            b"b ELSE ",
+            b"NOT ",
+            b"c ENDIF\nEND t",
+        ],
+        199,
+        "TooNested@2:816",
+    ),
+    (
+        [
+            b"t: THEORY BEGIN\nl: LEMMA IF a THEN ",
+            b"NOT ",
+            b"b ELSIF ",
+            b"NOT ",
+            b"c THEN d ELSE e ENDIF\nEND t",
+        ],
+        198,
+        "TooNested@2:1616",
+    ),
+    (
+        [
+            b"t: THEORY BEGIN\nl: LEMMA ",
+            b"FORALL x, y: ",
+            b"a",
+            b"",
+            b"\nEND t",
+        ],
+        200,
+        "TooNested@2:2610",
+    ),
+    (
+        [
+            b"t: THEORY BEGIN\nl: LEMMA ",
+            b"LET a = b, c = d IN ",
+            b"a",
+            b"",
+            b"\nEND t",
+        ],
+        200,
+        "TooNested@2:4010",
+    ),
+    (
+        [
+            b"t: THEORY BEGIN\nl: LEMMA ",
+            b"NOT FORALL x, y: ",
+            b"a",
+            b"",
+            b"\nEND t",
+        ],
+        199,
+        "TooNested@2:3397",
+    ),
+    (
         [b"(proof t.a ", b"(", b"", b")", b")"],
         200,
         "TooNested@1:212",
@@ -676,6 +811,67 @@ fn limits(rt: HostRuntime) -> Result<(), Fail> {
         let found = stop(alloc, &pieces, most)?;
         assert_eq!(rt; found.as_str(), "ok");
         let found = stop(alloc, &pieces, most.saturating_add(1))?;
+        assert_eq!(rt; found.as_str(), fault);
+    }
+    Ok(())
+}
+
+/// Texts with 200 pieces, as many as there may be, and the first fault at a token behind them.
+const BEHIND: [(Pieces, &str); 12] = [
+    (
+        [b"t: THEORY BEGIN\n", b"a, ", b"a", b"", b""],
+        "TooNested@2:601",
+    ),
+    (
+        [b"t: THEORY BEGIN\n", b"a, ", b": TYPE", b"", b""],
+        "Unexpected@2:601",
+    ),
+    (
+        [b"t: THEORY BEGIN\n", b"a, ", b"1", b"", b""],
+        "OutOfProfile@2:601",
+    ),
+    (
+        [b"t: THEORY BEGIN\n", b"a, ", b"#", b"", b""],
+        "BadByte@2:601",
+    ),
+    (
+        [b"t: THEORY BEGIN\n", b"a, ", b"", b"", b""],
+        "Unexpected@2:601",
+    ),
+    (
+        [b"t: THEORY BEGIN\nl: LEMMA ", b"(", b"NOT", b"", b""],
+        "TooNested@2:210",
+    ),
+    (
+        [b"t: THEORY BEGIN\nl: LEMMA ", b"(", b")", b"", b""],
+        "Unexpected@2:210",
+    ),
+    (
+        [b"t: THEORY BEGIN\nl: LEMMA ", b"(", b"XOR", b"", b""],
+        "OutOfProfile@2:210",
+    ),
+    (
+        [b"t: THEORY BEGIN\nl: LEMMA ", b"(", b"\"", b"", b""],
+        "UnclosedQuote@2:210",
+    ),
+    (
+        [b"t: THEORY BEGIN\nl: LEMMA ", b"(", b"a AND", b"", b""],
+        "TooNested@2:212",
+    ),
+    (
+        [b"t: THEORY BEGIN\nl: LEMMA ", b"(", b"a THEN", b"", b""],
+        "Unexpected@2:212",
+    ),
+    (
+        [b"t: THEORY BEGIN\nl: LEMMA ", b"(", b"a", b"", b""],
+        "Unexpected@2:211",
+    ),
+];
+
+#[test]
+fn faults_behind_limits(rt: HostRuntime) -> Result<(), Fail> {
+    for (pieces, fault) in BEHIND {
+        let found = stop(rt.alloc(), &pieces, 200)?;
         assert_eq!(rt; found.as_str(), fault);
     }
     Ok(())
