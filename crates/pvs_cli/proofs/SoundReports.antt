@@ -122,7 +122,7 @@ unit_sound text before after t es x name body h e p =
     let same : v.0 ≡ body = cc in
     λ m. ap (truth m) (sym same) ∙ v.2 m
 
--- what a report prints as complete is TRUE, where a text has one answer
+-- what a report prints as complete is TRUE, where a text has at most one answer
 pub report_sound : OneAnswer → (text : List ℕ) (lines : List Line) → IsReport text lines → IsSound text lines
 report_sound one text lines (of_text a k) u before after t es x name body m r split h e c f =
     let lines_of : answer_lines text a ≡ unit_lines text (before ++ item.Theory t ∷ after) = ap (answer_lines text) (one text a (Ok u) k r) ∙ ap (unit_lines text) split in

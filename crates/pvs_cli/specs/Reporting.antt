@@ -69,6 +69,6 @@ with_total ls = ls ++ TotalLine (totals_of ls) ∷ []
 pub data IsReport (text : List ℕ) : List Line → Type 0 where
   of_text : (a : Result unit.Unit Fault) → IsAnswer text a → IsReport text (with_total (answer_lines text a))
 
--- a text reads as one unit, or else it has one first fault
+-- two answers of one text are the same: its unit, or its first fault
 abbrev pub OneAnswer : Type 0
 OneAnswer = (text : List ℕ) (a b : Result unit.Unit Fault) → IsAnswer text a → IsAnswer text b → a ≡ b

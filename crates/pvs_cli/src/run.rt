@@ -55,7 +55,7 @@ fn write_report<K: Sink>(alloc: Global, text: &[u8], sink: &mut K) -> Status
     ensures front { (bytes : List ℕ) (end : Status) → IsReportOf text.now bytes end → AddsFront (K.written sink.old) (K.written sink.new) bytes }
     ensures cause { HasCause (K.faults sink.old) (K.faults sink.new) (result ≡ Status.OutputFault) }
 {
-    // A text has one report, since it has one answer.
+    // A text has at most one report, since it has at most one answer.
     one_answer();
     let Ok(report) = make_report(alloc, text) else {
         return Status::Memory;

@@ -57,12 +57,6 @@ abbrev pub outside_two_bytes : List (List ℕ)
 outside_two_bytes =
     codes "<=" ∷ codes ">=" ∷ codes "(#" ∷ codes "#)" ∷ codes "[#" ∷ codes "#]" ∷ codes "(:" ∷ codes ":)" ∷ codes "{{" ∷ codes "::" ∷ codes ":=" ∷ []
 
--- whether bytes are one of these symbols of PVS that no form of the grammar has
-abbrev pub is_outside_symbol : List ℕ → Bool
-is_outside_symbol (a ∷ []) = list_any (nat_eq a) outside_one_byte
-is_outside_symbol (a ∷ b ∷ []) = list_any (bytes_eq (a ∷ b ∷ [])) outside_two_bytes
-is_outside_symbol _ = false
-
 -- a symbol: one of these, or `<=>`
 abbrev pub is_symbol : List ℕ → Bool
 is_symbol [] = false

@@ -6,9 +6,9 @@ use Rattle.pvs_syntax.specs.declared.expression.Expr.{Expr}
 use Rattle.pvs_syntax.specs.declared.unit.Unit as tree
 use Rattle.pvs_parser.specs.declared.failure.ParseFault.{ParseFault}
 use Rattle.pvs_parser.specs.declared.failure.ParseFault.TheVariants as parse_fault
-use Rattle.pvs_parser.specs.Returns.{Returns}
-use Rattle.pvs_parser.specs.Text.{Reads, ReadsSpan, IsTree, IsFault, IsFirstFault, IsFirstFaultOfSpan, IsAnswer, Answers, AnswersSpan, SpansIn, read_text, read_span}
-use Rattle.pvs_parser.proofs.Texts.{text_sound, text_complete, span_sound, span_complete, text_answer, IsSpanAnswer, span_answer, unit_or_fault, fault_same, expr_or_fault, span_fault_same}
+use Rattle.pvs_parser.specs.Reading.{Returns, read_text, read_span}
+use Rattle.pvs_parser.specs.Text.{Reads, ReadsSpan, AnswersTree, AnswersFault, IsFirstFault, IsFirstFaultOfSpan, IsAnswer, IsSpanAnswer, Answers, AnswersSpan, SpansIn}
+use Rattle.pvs_parser.proofs.Texts.{text_sound, text_complete, span_sound, span_complete, text_answer, span_answer, unit_or_fault, fault_same, expr_or_fault, span_fault_same}
 use Rattle.pvs_parser.proofs.ScriptSpans.{spans_in}
 
 same_tree : {A : Type 0} (o : Result A Fault) (x y : A) → o ≡ Ok x → o ≡ Ok y → x ≡ y
@@ -27,13 +27,13 @@ err_is_no_ok : {A : Type 0} (o : Result A Fault) (x : A) (f : Fault) → o ≡ O
 err_is_no_ok o x f e g = cc
 
 -- where a text is a unit, that one is answered
-pub unit_only : (text : List ℕ) (r : Result tree.Unit ParseFault) → Returns r (read_text text) → (u : tree.Unit) → Reads text u → IsTree u r
+pub unit_only : (text : List ℕ) (r : Result tree.Unit ParseFault) → Returns r (read_text text) → (u : tree.Unit) → Reads text u → AnswersTree u r
 unit_only text (Ok v) e u d = same_tree (read_text text) v u e (text_complete text u d)
 unit_only text (Err (parse_fault.At f)) e u d = err_is_no_ok (read_text text) u f (text_complete text u d) e
 unit_only text (Err parse_fault.Memory) e u d = tt
 
 -- where a text has a first fault, that one is answered
-pub unit_first : (text : List ℕ) (r : Result tree.Unit ParseFault) → Returns r (read_text text) → (f : Fault) → IsFirstFault text f → IsFault f r
+pub unit_first : (text : List ℕ) (r : Result tree.Unit ParseFault) → Returns r (read_text text) → (f : Fault) → IsFirstFault text f → AnswersFault f r
 unit_first text (Ok v) e f h = unit_or_fault text v f (text_sound text v e) h
 unit_first text (Err (parse_fault.At g)) e f h = fault_same text g f (subst (λ z. IsAnswer text z) e (text_answer text)) h
 unit_first text (Err parse_fault.Memory) e f h = tt
@@ -47,12 +47,12 @@ expr_answers text start end pos (Ok x) e = span_sound text start end pos x e
 expr_answers text start end pos (Err (parse_fault.At f)) e = subst (λ z. IsSpanAnswer text start end pos z) e (span_answer text start end pos)
 expr_answers text start end pos (Err parse_fault.Memory) e = tt
 
-pub expr_only : (text : List ℕ) (start end : ℕ) (pos : Pos) (r : Result Expr ParseFault) → Returns r (read_span text start end pos) → (x : Expr) → ReadsSpan text start end pos x → IsTree x r
+pub expr_only : (text : List ℕ) (start end : ℕ) (pos : Pos) (r : Result Expr ParseFault) → Returns r (read_span text start end pos) → (x : Expr) → ReadsSpan text start end pos x → AnswersTree x r
 expr_only text start end pos (Ok y) e x d = same_tree (read_span text start end pos) y x e (span_complete text start end pos x d)
 expr_only text start end pos (Err (parse_fault.At f)) e x d = err_is_no_ok (read_span text start end pos) x f (span_complete text start end pos x d) e
 expr_only text start end pos (Err parse_fault.Memory) e x d = tt
 
-pub expr_first : (text : List ℕ) (start end : ℕ) (pos : Pos) (r : Result Expr ParseFault) → Returns r (read_span text start end pos) → (f : Fault) → IsFirstFaultOfSpan text start end pos f → IsFault f r
+pub expr_first : (text : List ℕ) (start end : ℕ) (pos : Pos) (r : Result Expr ParseFault) → Returns r (read_span text start end pos) → (f : Fault) → IsFirstFaultOfSpan text start end pos f → AnswersFault f r
 expr_first text start end pos (Ok y) e f h = expr_or_fault text start end pos y f (span_sound text start end pos y e) h
 expr_first text start end pos (Err (parse_fault.At g)) e f h = span_fault_same text start end pos g f (subst (λ z. IsSpanAnswer text start end pos z) e (span_answer text start end pos)) h
 expr_first text start end pos (Err parse_fault.Memory) e f h = tt

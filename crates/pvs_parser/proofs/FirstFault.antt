@@ -11,7 +11,8 @@ use Rattle.pvs_parser.specs.Terminals.{Is, IsId}
 use Rattle.pvs_parser.specs.Language.{Tokens, Limit, bounded}
 use Rattle.pvs_parser.specs.Descent.{Answer}
 use Rattle.pvs_parser.specs.Faults.{code_of, Begins, IsWithin, IsWhy, FaultBehind, IsFirst}
-use Rattle.pvs_parser.specs.Text.{Terminals, judged, unless_fault, fault_of, fault_at}
+use Rattle.pvs_parser.specs.Reading.{judged, unless_fault, fault_of, fault_at}
+use Rattle.pvs_parser.specs.Text.{Terminals}
 use Rattle.pvs_parser.proofs.Cuts.{Cut, Agrees}
 use Rattle.pvs_parser.proofs.Locality.{Paired}
 use Rattle.pvs_parser.proofs.UnitLocality.{alone}

@@ -11,7 +11,8 @@ use Rattle.pvs_parser.specs.Language.{IsBelow, bounded}
 use Rattle.pvs_parser.specs.Descent.{Answer, expression}
 use Rattle.pvs_parser.specs.UnitDescent.{unit}
 use Rattle.pvs_parser.specs.Faults.{BehindEnd}
-use Rattle.pvs_parser.specs.Text.{Terminals, unless_fault, judged, first_place, terminals_of_text, read_text, Reads, IsUnit, IsFirstFault, IsAnswer, span_of, terminals_of_span, read_span, IsExpr, Nowhere, ReadsSpan, IsFirstFaultOfSpan}
+use Rattle.pvs_parser.specs.Reading.{unless_fault, judged, read_text, read_span}
+use Rattle.pvs_parser.specs.Text.{Terminals, first_place, terminals_of_text, Reads, IsUnit, IsFirstFault, IsAnswer, span_of, terminals_of_span, IsExpr, Nowhere, ReadsSpan, IsFirstFaultOfSpan, IsSpanAnswer}
 use Rattle.pvs_parser.proofs.FirstFault.{one_first, no_first, first_fault}
 use Rattle.pvs_parser.proofs.ExprFault.{expr_reading}
 use Rattle.pvs_parser.proofs.UnitFault.{unit_reading}
@@ -75,7 +76,7 @@ fault_same text _ _ (IsFirstFault.first small f h) (IsFirstFault.too_long long) 
 fault_same text _ _ (IsFirstFault.first small f h) (IsFirstFault.first small2 g k) =
     one_first (IsUnit text) BehindEnd (place_after first_place text) (terminals_of_text text).fault (terminals_of_text text).tokens f g h k
 
--- a text has one answer
+-- two answers of one text are the same
 pub one_answer : (text : List ℕ) (a b : Result tree.Unit Fault) → IsAnswer text a → IsAnswer text b → a ≡ b
 one_answer text (Ok u) (Ok v) r s = ap (λ z. Ok z) (unit_same (read_text text) u v (text_complete text u r) (text_complete text v s))
 one_answer text (Ok u) (Err g) r s = absurd (unit_or_fault text u g r s)
@@ -112,11 +113,6 @@ span_complete text start end pos x r =
     let ts : Terminals = terminals_of_span text start end pos in
     judged_is (place_after pos (span_of text start end)) ts (expression bounded ts.tokens) x r.faultless (expression_complete bounded ts.tokens x r.reads)
 
--- what a span is, or its first fault
-abbrev pub IsSpanAnswer : List ℕ → ℕ → ℕ → Pos → Result Expr Fault → Type 0
-IsSpanAnswer text start end pos (Ok x) = ReadsSpan text start end pos x
-IsSpanAnswer text start end pos (Err f) = IsFirstFaultOfSpan text start end pos f
-
 expr_same : (o : Result Expr Fault) (x y : Expr) → o ≡ Ok x → o ≡ Ok y → x ≡ y
 expr_same o x y f g = cc
 
@@ -131,7 +127,7 @@ span_fault_same text start end pos f g h k =
     let ts : Terminals = terminals_of_span text start end pos in
     one_first IsExpr Nowhere (place_after pos (span_of text start end)) ts.fault ts.tokens f g h k
 
--- a span has one answer
+-- two answers of one span are the same
 pub one_span_answer : (text : List ℕ) (start end : ℕ) (pos : Pos) (a b : Result Expr Fault) → IsSpanAnswer text start end pos a → IsSpanAnswer text start end pos b → a ≡ b
 one_span_answer text start end pos (Ok x) (Ok y) r s = ap (λ z. Ok z) (expr_same (read_span text start end pos) x y (span_complete text start end pos x r) (span_complete text start end pos y s))
 one_span_answer text start end pos (Ok x) (Err g) r s = absurd (expr_or_fault text start end pos x g r s)

@@ -6,5 +6,5 @@ pub mod Units
 pub mod UnitDescent
 pub mod Faults
 pub mod Text
-pub mod Returns
+pub mod Reading
 pub mod Steps

@@ -17,19 +17,15 @@ use Rattle.pvs_syntax.specs.declared.expression.Expr.{Expr}
 use Rattle.pvs_syntax.specs.declared.unit.Item.{Item}
 use Rattle.pvs_syntax.specs.declared.unit.Item.TheVariants as item
 use Rattle.pvs_syntax.specs.declared.unit.Unit as tree
-use Rattle.pvs_parser.specs.declared.failure.Reason.{Reason}
-use Rattle.pvs_parser.specs.declared.failure.Stop.{Stop}
 use Rattle.pvs_parser.specs.declared.failure.ParseFault.{ParseFault}
 use Rattle.pvs_parser.specs.declared.failure.ParseFault.TheVariants as parse_fault
 use Rattle.pvs_parser.specs.declared.nesting.Nesting.{Nesting}
 use Rattle.pvs_parser.specs.declared.terminal.Terminal.{Terminal}
 use Rattle.pvs_parser.specs.declared.terminal.TerminalKind.{TerminalKind}
 use Rattle.pvs_parser.specs.declared.terminal.TerminalKind.TheVariants as kind
-use Rattle.pvs_parser.specs.Faults.{code_of, last_fault, BehindEnd, IsFirst}
+use Rattle.pvs_parser.specs.Faults.{BehindEnd, IsFirst}
 use Rattle.pvs_parser.specs.Language.{Tokens, Limit, bounded, ReadsExpr, Ending, Derives, whole, outermost}
 use Rattle.pvs_parser.specs.Units.{DerivesUnit}
-use Rattle.pvs_parser.specs.Descent.{Answer, expression}
-use Rattle.pvs_parser.specs.UnitDescent.{unit}
 
 -- ---- What a token is for the grammar.
 
@@ -150,25 +146,6 @@ terminals_of quoted offset span lexed = record { tokens = map (terminal quoted o
 abbrev pub terminals : Bool → ℕ → Pos → List ℕ → Terminals
 terminals quoted offset pos span = terminals_of quoted offset span (tokens_of pos span)
 
--- ---- Where reading stops, as a fault.
-
-abbrev pub fault_at : Pos → Option Fault → Tokens → ℕ → Reason → Option Terminal → Fault
-fault_at end fault ts at why None = last_fault end fault
-fault_at end fault ts at why (Some t) = record { pos = t.word.pos; code = code_of ts at t.kind why }
-
--- the fault of a stop in tokens that end at a place, with a lexical fault behind them or none
-abbrev pub fault_of : Pos → Option Fault → Tokens → Stop → Fault
-fault_of end fault ts s = fault_at end fault ts (length ts - s.left) s.reason (slice_get ts (length ts - s.left))
-
--- what is read where no lexical fault stands behind it
-abbrev pub unless_fault : {A : Type 0} → Option Fault → A → Result A Fault
-unless_fault None x = Ok x
-unless_fault (Some f) x = Err f
-
-abbrev pub judged : {A : Type 0} → Pos → Terminals → Answer A → Result A Fault
-judged end ts (Err s) = Err (fault_of end ts.fault ts.tokens s)
-judged end ts (Ok x) = unless_fault ts.fault x
-
 -- ---- Whole texts.
 
 abbrev pub first_place : Pos
@@ -176,11 +153,6 @@ first_place = record { line = 1; col = 1 }
 
 abbrev pub terminals_of_text : List ℕ → Terminals
 terminals_of_text text = terminals false 0 first_place text
-
--- the unit of a text of any length, or the fault where reading it stops
-abbrev pub read_text : List ℕ → Result tree.Unit Fault
-read_text text = if nat_lt (2 ^ 20) (length text) then Err (record { pos = first_place; code = code.TextTooLong })
-    else judged (place_after first_place text) (terminals_of_text text) (unit bounded text (terminals_of_text text).tokens)
 
 -- a text is this unit
 pub record Reads (text : List ℕ) (u : tree.Unit) : Type 0 where
@@ -208,17 +180,17 @@ Answers text (Ok u) = IsAnswer text (Ok u)
 Answers text (Err (parse_fault.At f)) = IsAnswer text (Err f)
 Answers text (Err parse_fault.Memory) = ⊤
 
--- such a tree and no other is answered, unless memory runs out
-abbrev pub IsTree : {A : Type 0} → A → Result A ParseFault → Type 0
-IsTree x (Ok y) = y ≡ x
-IsTree x (Err (parse_fault.At f)) = ⊥
-IsTree x (Err parse_fault.Memory) = ⊤
+-- this tree is answered, unless memory runs out
+abbrev pub AnswersTree : {A : Type 0} → A → Result A ParseFault → Type 0
+AnswersTree x (Ok y) = y ≡ x
+AnswersTree x (Err (parse_fault.At f)) = ⊥
+AnswersTree x (Err parse_fault.Memory) = ⊤
 
--- such a fault and no other is answered, unless memory runs out
-abbrev pub IsFault : {A : Type 0} → Fault → Result A ParseFault → Type 0
-IsFault f (Ok y) = ⊥
-IsFault f (Err (parse_fault.At g)) = g ≡ f
-IsFault f (Err parse_fault.Memory) = ⊤
+-- this fault is answered, unless memory runs out
+abbrev pub AnswersFault : {A : Type 0} → Fault → Result A ParseFault → Type 0
+AnswersFault f (Ok y) = ⊥
+AnswersFault f (Err (parse_fault.At g)) = g ≡ f
+AnswersFault f (Err parse_fault.Memory) = ⊤
 
 -- the script of a proof lies in the text, and its place is that of its first byte
 abbrev pub SpanIn : List ℕ → Item → Type 0
@@ -236,11 +208,6 @@ span_of text start end = take (end - start) (drop start text)
 
 abbrev pub terminals_of_span : List ℕ → ℕ → ℕ → Pos → Terminals
 terminals_of_span text start end pos = terminals true start pos (span_of text start end)
-
--- the expression of a span whose first byte has a place, or the fault where reading it stops
-abbrev pub read_span : List ℕ → ℕ → ℕ → Pos → Result Expr Fault
-read_span text start end pos =
-    judged (place_after pos (span_of text start end)) (terminals_of_span text start end pos) (expression bounded (terminals_of_span text start end pos).tokens)
 
 -- a span is this expression
 pub record ReadsSpan (text : List ℕ) (start end : ℕ) (pos : Pos) (x : Expr) : Type 0 where
@@ -260,8 +227,13 @@ abbrev pub IsFirstFaultOfSpan : List ℕ → ℕ → ℕ → Pos → Fault → T
 IsFirstFaultOfSpan text start end pos f =
     IsFirst IsExpr Nowhere (place_after pos (span_of text start end)) (terminals_of_span text start end pos).fault (terminals_of_span text start end pos).tokens f
 
+-- the expression of a span, or its first fault
+abbrev pub IsSpanAnswer : List ℕ → ℕ → ℕ → Pos → Result Expr Fault → Type 0
+IsSpanAnswer text start end pos (Ok x) = ReadsSpan text start end pos x
+IsSpanAnswer text start end pos (Err f) = IsFirstFaultOfSpan text start end pos f
+
 -- what is answered of a span, unless memory runs out
 abbrev pub AnswersSpan : List ℕ → ℕ → ℕ → Pos → Result Expr ParseFault → Type 0
-AnswersSpan text start end pos (Ok x) = ReadsSpan text start end pos x
-AnswersSpan text start end pos (Err (parse_fault.At f)) = IsFirstFaultOfSpan text start end pos f
+AnswersSpan text start end pos (Ok x) = IsSpanAnswer text start end pos (Ok x)
+AnswersSpan text start end pos (Err (parse_fault.At f)) = IsSpanAnswer text start end pos (Err f)
 AnswersSpan text start end pos (Err parse_fault.Memory) = ⊤

@@ -180,7 +180,8 @@ fn formula_word(kind: TerminalKind) -> Option<FormulaWord>
     }
 }
 
-/// A formula of one name, from its word on.
+/// A formula of one name. `tokens` begin with its word, which is `word`, and `rest` are those after
+/// that; several names are refused at the word.
 fn formula<'a>(
     alloc: Global,
     names: &[Word],

@@ -41,7 +41,8 @@ where
     E: Fn(Global, usize, usize, Start, Nesting, &[Terminal]) -> Read<'_, Expr>,
     T: Fn(Global, usize, usize, Nesting, &[Terminal]) -> Read<'_, TypeExpr>,
 {
-    pub fn start<'a>(
+    /// The expression that begins with `start`, read by the calls one level deeper.
+    pub fn read_from<'a>(
         &self,
         start: Start,
         nesting: Nesting,
@@ -58,7 +59,7 @@ where
         requires { Nests self.now.room (E.pre self.now.expr) (E.post self.now.expr) (T.pre self.now.ty) (T.post self.now.ty) }
         ensures { Gives (λ p. (p.0, p.1, p.2.now)) result (spec.deeper (below self.now.room) nesting tokens.now) }
     {
-        self.start(Start::Chain(Connective::Iff), nesting, tokens)
+        self.read_from(Start::Chain(Connective::Iff), nesting, tokens)
     }
 
     pub fn type_expr<'a>(&self, nesting: Nesting, tokens: &'a [Terminal]) -> Read<'a, TypeExpr>

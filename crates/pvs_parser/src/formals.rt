@@ -19,7 +19,7 @@ use pvs_syntax::{Formal, TypeExpr, Word};
 use sqlite_items::Items;
 use std::alloc::{AllocError, Global};
 
-/// The nesting inside the bracket of a formal list.
+/// The nesting inside the bracket of a formal list, which opens at level 0 and so has room.
 const INSIDE: Nesting = Nesting { kept: 1, marks: 0 };
 
 /// A type, and the tokens after it.

@@ -30,11 +30,10 @@ mod trees;
 mod types;
 mod units;
 
-pub use failure::{Failure, ParseFault, Reason, Stop};
-pub use grammar::one_expression;
+pub use failure::{ParseFault, Reason};
+pub use grammar::{one_expression, one_unit, prefix_begins};
 pub use nesting::Nesting;
-pub use parse::{one_answer, parse_expr, parse_unit};
-pub use start::Start;
+pub use parse::{one_answer, one_span_answer, parse_expr, parse_unit};
 pub use terminal::{Connective, Prefix, Terminal, TerminalKind};
 
 #[cfg(test)]

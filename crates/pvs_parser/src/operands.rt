@@ -69,7 +69,7 @@ where
             return Ok((left, nesting, tokens));
         };
         let nesting = nesting.mark(rest)?;
-        let (right, nesting, rest) = self.start(Start::Chain(connective), nesting, rest)?;
+        let (right, nesting, rest) = self.read_from(Start::Chain(connective), nesting, rest)?;
         Ok((
             infix(self.alloc, operator(connective), left, right)?,
             nesting,

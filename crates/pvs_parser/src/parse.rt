@@ -2,11 +2,12 @@
 
 ghost use Rattle.std.specs.Prelude.{◌≡◌, ◌≤◌, ◌^◌, ℕ, List, Result, length, IfOk};
 ghost use Rattle.pvs_base.specs.declared.code.Fault as fault;
+ghost use Rattle.pvs_base.specs.declared.place.Pos as place;
 ghost use Rattle.pvs_syntax.specs.declared.expression.Expr as tree_expr;
 ghost use Rattle.pvs_syntax.specs.declared.unit.Unit as tree;
-ghost use Rattle.pvs_parser.specs.Returns.{Returns};
-ghost use Rattle.pvs_parser.specs.Text.{Reads, IsFirstFault, IsAnswer, Answers, ReadsSpan, IsFirstFaultOfSpan, AnswersSpan, IsTree, IsFault, SpansIn};
-ghost use Rattle.pvs_parser.specs.Text as spec;
+ghost use Rattle.pvs_parser.specs.Reading.{Returns};
+ghost use Rattle.pvs_parser.specs.Text.{Reads, IsFirstFault, IsAnswer, Answers, ReadsSpan, IsFirstFaultOfSpan, AnswersSpan, IsSpanAnswer, AnswersTree, AnswersFault, SpansIn};
+ghost use Rattle.pvs_parser.specs.Reading as spec;
 
 use crate::descent::expression;
 use crate::failure::ParseFault;
@@ -51,7 +52,8 @@ fn read_span(alloc: Global, text: &[u8], start: u32, end: u32, pos: Pos) -> Resu
     }
 }
 
-/// The unit of a text: its theories and proofs, in order.
+/// The unit of a text: its theories and proofs, in order (PVS Language Reference, chapters Theories
+/// and Declarations; proofs stand beside theories).
 ///
 /// Otherwise the first fault, with its place; lines and columns count from 1, and columns are
 /// bytes:
@@ -71,8 +73,8 @@ fn read_span(alloc: Global, text: &[u8], start: u32, end: u32, pos: Pos) -> Resu
 pub fn parse_unit(alloc: Global, text: &[u8]) -> Result<Unit, ParseFault>
     ensures answer { Answers text.now result }
     // Where the text is a unit, that one is answered; where it has a first fault, that one is.
-    ensures only { (u : tree.Unit) → Reads text.now u → IsTree u result }
-    ensures first { (f : fault.Fault) → IsFirstFault text.now f → IsFault f result }
+    ensures only { (u : tree.Unit) → Reads text.now u → AnswersTree u result }
+    ensures first { (f : fault.Fault) → IsFirstFault text.now f → AnswersFault f result }
     // The script of each proof lies in the text, and its place is that of its first byte.
     ensures spans { IfOk result (λ u. SpansIn text.now u) }
     // A text that reads is no longer than a text may be.
@@ -82,7 +84,8 @@ pub fn parse_unit(alloc: Global, text: &[u8]) -> Result<Unit, ParseFault>
 }
 
 /// The expression of the bytes of a text from `start` up to `end`, the first of which has the place
-/// `pos`. The variables of a sequent, as `v!1`, are identifiers in it.
+/// `pos` (PVS Language Reference, chapter Expressions). The variables of a sequent, as `v!1`, are
+/// identifiers in it.
 ///
 /// Otherwise the first fault: BadByte, UnclosedQuote, Unexpected, OutOfProfile or TooNested, each
 /// where `parse_unit` has it, with an expression in place of a unit. The place after the last byte
@@ -101,13 +104,20 @@ pub fn parse_expr(
     requires col { pos.col ≤ 2 ^ 30 }
     ensures answer { AnswersSpan text.now start end pos result }
     // Where the span is an expression, that one is answered; where it has a first fault, that one is.
-    ensures only { (x : tree_expr.Expr) → ReadsSpan text.now start end pos x → IsTree x result }
-    ensures first { (f : fault.Fault) → IsFirstFaultOfSpan text.now start end pos f → IsFault f result }
+    ensures only { (x : tree_expr.Expr) → ReadsSpan text.now start end pos x → AnswersTree x result }
+    ensures first { (f : fault.Fault) → IsFirstFaultOfSpan text.now start end pos f → AnswersFault f result }
 {
     read_span(alloc, text, start, end, pos)
 }
 
-/// A text has one unit or one first fault.
+/// Two answers of one text are the same: it has at most one unit and at most one first fault, and
+/// not both.
 pub fn one_answer()
     ensures { (text : List ℕ) (a b : Result tree.Unit fault.Fault) → IsAnswer text a → IsAnswer text b → a ≡ b }
+{}
+
+/// Two answers of one span are the same: it is at most one expression, and has at most one first
+/// fault, and not both.
+pub fn one_span_answer()
+    ensures { (text : List ℕ) (start end : ℕ) (pos : place.Pos) (a b : Result tree_expr.Expr fault.Fault) → IsSpanAnswer text start end pos a → IsSpanAnswer text start end pos b → a ≡ b }
 {}

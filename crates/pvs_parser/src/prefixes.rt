@@ -83,7 +83,7 @@ where
         ensures { Gives (λ p. (p.0, p.1, p.2.now)) result (spec.not_with (below self.now.room) word nesting tokens.now) }
     {
         let nesting = nesting.mark(tokens)?;
-        let (operand, nesting, rest) = self.start(Start::Operand, nesting, tokens)?;
+        let (operand, nesting, rest) = self.read_from(Start::Operand, nesting, tokens)?;
         Ok((
             Expr::Not(Boxed::new(self.alloc, operand)?, word.pos),
             nesting,

@@ -34,7 +34,8 @@ fn balanced(tokens: &[Terminal]) -> Result<(Word, &[Terminal]), Failure>
     Err(stop(rest))
 }
 
-/// The first and the last parenthesis of a script, and the tokens after it.
+/// The first and the last parenthesis of a script, and the tokens after it. A script begins at level
+/// 0, so its first parenthesis has room.
 fn script(tokens: &[Terminal]) -> Result<(Word, Word, &[Terminal]), Failure>
     ensures { Gives (λ p. (p.0, p.1, p.2.now)) result (spec.script bounded tokens.now) }
 {

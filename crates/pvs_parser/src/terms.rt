@@ -50,7 +50,7 @@ where
     {
         let (test, nesting, rest) = self.condition(nesting, tokens)?;
         let (holds, nesting, rest) = self.expr(nesting, rest)?;
-        let (fails, nesting, rest) = self.start(Start::Otherwise, nesting, rest)?;
+        let (fails, nesting, rest) = self.read_from(Start::Otherwise, nesting, rest)?;
         let test = Boxed::new(self.alloc, test)?;
         let holds = Boxed::new(self.alloc, holds)?;
         let fails = Boxed::new(self.alloc, fails)?;
