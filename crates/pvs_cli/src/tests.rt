@@ -486,6 +486,14 @@ fn forms_that_are_not_built(rt: HostRuntime) -> Result<(), Fail> {
     Ok(())
 }
 
+/// A part in which nothing is assumed leaves the same tree as none.
+#[test]
+fn nothing_is_assumed(rt: HostRuntime) -> Result<(), Fail> {
+    let text = "t: THEORY BEGIN ASSUMING ENDASSUMING END t";
+    let report = "theory t\ntotal complete 0 incomplete 0 open 0 refused 0\n";
+    assert_report(&rt, rt.alloc(), text, report, Status::Clean)
+}
+
 #[test]
 fn names_that_are_declared_again(rt: HostRuntime) -> Result<(), Fail> {
     for (text, report) in [

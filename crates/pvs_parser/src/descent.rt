@@ -17,9 +17,9 @@ use sqlite_items::Items;
 use std::alloc::Global;
 
 /// How many calls of `expr` and `type_expr` may stand inside one another. The level of a text does
-/// not bound them, since a comma clears marks whose forms are still open: this bound keeps the stack
-/// within a few MiB, and a text past it is one for which memory ran out.
-pub const CALLS: usize = 1000;
+/// not bound them, since a comma clears marks whose forms are still open. This bound keeps the stack
+/// within the 8 MiB that a program commonly has; a text past it is one for which memory ran out.
+pub const CALLS: usize = 700;
 
 /// A tree, with the nesting behind it and the tokens after it.
 pub type Read<'a, A> = Result<(A, Nesting, &'a [Terminal]), Failure>;

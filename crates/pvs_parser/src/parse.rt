@@ -69,7 +69,7 @@ fn read_span(alloc: Global, text: &[u8], start: u32, end: u32, pos: Pos) -> Resu
 /// - WrongEnd, at an identifier behind END that is not the name of the theory.
 ///
 /// Memory is for want of memory alone, that of the stack among it: a text whose reading would nest
-/// more than 1,000 calls wants more. Only texts do in which commas clear the marks of open forms.
+/// more than 700 calls wants more. Only texts do in which commas clear the marks of open forms.
 pub fn parse_unit(alloc: Global, text: &[u8]) -> Result<Unit, ParseFault>
     ensures answer { Answers text.now result }
     // Where the text is a unit, that one is answered; where it has a first fault, that one is.
