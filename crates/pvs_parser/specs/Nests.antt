@@ -1,5 +1,5 @@
 -- Function values that read the expressions and the types that stand deeper.
-use Rattle.std.specs.Prelude.{ℕ, Bool, true, false, [], ◌∷◌, length, Result}
+use Rattle.std.specs.Prelude.{◌≡◌, ℕ, Bool, true, false, [], ◌∷◌, length, Result}
 use Rattle.std.specs.declared.alloc.Global.{Global}
 use denote.Ref.{Bor}
 use Rattle.pvs_parser.specs.declared.failure.Failure.{Failure}
@@ -11,7 +11,7 @@ use Rattle.pvs_parser.specs.declared.terminal.TerminalKind.{TerminalKind}
 use Rattle.pvs_syntax.specs.declared.expression.Expr.{Expr}
 use Rattle.pvs_syntax.specs.declared.expression.TypeExpr.{TypeExpr}
 use Rattle.pvs_parser.specs.Language.{bounded, Tokens}
-use Rattle.pvs_parser.specs.Descent.{Go, Gives, reader}
+use Rattle.pvs_parser.specs.Descent.{Go, Read, Gives, reader}
 
 -- what is read within the limits of the language, with so many forms inside one another at most
 abbrev pub below : ℕ → Go
@@ -41,3 +41,9 @@ comes starts (t ∷ ts) = starts t.kind
 abbrev pub crowded_at : Bool → Tokens → Stop
 crowded_at true ts = record { left = length ts; reason = reason.TooNested }
 crowded_at false ts = record { left = length ts; reason = reason.Unexpected }
+
+-- What two function values answer: the first reads an item, and the second says whether one may begin.
+pub record ReadsItems {A : Type 0} (starts : TerminalKind → Bool) (reads : Nesting → Tokens → Read A)
+    (post_item : Nesting → Bor Tokens → Returned A → Type 0) (post_start : Bor Tokens → Bool → Type 0) : Type 0 where
+  pub item_gives : (l : Nesting) (ts : Bor Tokens) (r : Returned A) → post_item l ts r → Gives (λ p. (p.0, p.1, p.2.now)) r (reads l ts.now)
+  pub start_gives : (ts : Bor Tokens) (b : Bool) → post_start ts b → b ≡ comes starts ts.now

@@ -1,10 +1,10 @@
 //! Lists with commas between their items: at most 200 of them.
 
-ghost use Rattle.std.specs.Prelude.{◌≡◌};
+ghost use Rattle.std.specs.Prelude.{◌≡◌, []};
 ghost use Rattle.pvs_parser.specs.Descent.{Gives};
 ghost use Rattle.pvs_parser.specs.Descent as spec;
 ghost use Rattle.pvs_parser.specs.Language.{Expression, Parameter, Component, Variable, BareVariable, Definition};
-ghost use Rattle.pvs_parser.specs.Nests.{Nests, below, crowded_at};
+ghost use Rattle.pvs_parser.specs.Nests.{Nests, ReadsItems, below, crowded_at};
 
 use crate::descent::{Descent, Read};
 use crate::failure::Failure;
@@ -32,6 +32,38 @@ pub fn crowded(is_start: bool, tokens: &[Terminal]) -> Failure
     }
 }
 
+/// The items that `item` reads, with commas between them: at most 200. `is_start` says whether one
+/// more may begin.
+fn list<'a, X, I, S>(
+    alloc: Global,
+    nesting: Nesting,
+    tokens: &'a [Terminal],
+    item: I,
+    is_start: S,
+) -> Read<'a, Items<X>>
+where
+    X: Drop,
+    I: Fn(Nesting, &'a [Terminal]) -> Read<'a, X>,
+    S: Fn(&'a [Terminal]) -> bool,
+    requires item { I.IsAlwaysCallable item }
+    requires is_start { S.IsAlwaysCallable is_start }
+    ensures { (starts : _) (reads : _) → ReadsItems starts reads (I.post item) (S.post is_start) → Gives (λ p. (p.0, p.1, p.2.now)) result (spec.list_from starts reads 200 [] nesting tokens.now) }
+{
+    let mut found = Items::new(alloc);
+    let mut nesting = nesting;
+    let mut rest = tokens;
+    for _ in 0..MAX_LIST {
+        let (tree, behind, next) = item(nesting, rest)?;
+        found.push(tree)?;
+        let Some(next) = after(TerminalKind::Comma, next) else {
+            return Ok((found, behind, next));
+        };
+        nesting = behind.cleared();
+        rest = next;
+    }
+    Err(crowded(is_start(rest), rest))
+}
+
 impl<E, T> Descent<E, T>
 where
     E: Fn(Global, usize, usize, Start, Nesting, &[Terminal]) -> Read<'_, Expr>,
@@ -42,19 +74,8 @@ where
         requires { Nests self.now.room (E.pre self.now.expr) (E.post self.now.expr) (T.pre self.now.ty) (T.post self.now.ty) }
         ensures { Gives (λ p. (p.0, p.1, p.2.now)) result (spec.list_with (below self.now.room) Expression nesting tokens.now) }
     {
-        let mut found = Items::new(self.alloc);
-        let mut nesting = nesting;
-        let mut rest = tokens;
-        for _ in 0..MAX_LIST {
-            let (item, behind, next) = self.expr(nesting, rest)?;
-            found.push(item)?;
-            let Some(next) = after(TerminalKind::Comma, next) else {
-                return Ok((found, behind, next));
-            };
-            nesting = behind.cleared();
-            rest = next;
-        }
-        Err(crowded(comes_expr(rest), rest))
+        let item = |nesting, tokens| self.expr(nesting, tokens);
+        list(self.alloc, nesting, tokens, item, comes_expr)
     }
 
     /// Actual parameters.
@@ -62,19 +83,9 @@ where
         requires { Nests self.now.room (E.pre self.now.expr) (E.post self.now.expr) (T.pre self.now.ty) (T.post self.now.ty) }
         ensures { Gives (λ p. (p.0, p.1, p.2.now)) result (spec.list_with (below self.now.room) Parameter nesting tokens.now) }
     {
-        let mut found = Items::new(self.alloc);
-        let mut nesting = nesting;
-        let mut rest = tokens;
-        for _ in 0..MAX_LIST {
-            let (item, behind, next) = self.parameter(nesting, rest)?;
-            found.push(item)?;
-            let Some(next) = after(TerminalKind::Comma, next) else {
-                return Ok((found, behind, next));
-            };
-            nesting = behind.cleared();
-            rest = next;
-        }
-        Err(crowded(comes_expr(rest) || comes_type_actual(rest), rest))
+        let item = |nesting, tokens| self.parameter(nesting, tokens);
+        let is_start = |tokens| comes_expr(tokens) || comes_type_actual(tokens);
+        list(self.alloc, nesting, tokens, item, is_start)
     }
 
     /// Components of a domain or of a tuple type.
@@ -86,19 +97,8 @@ where
         requires { Nests self.now.room (E.pre self.now.expr) (E.post self.now.expr) (T.pre self.now.ty) (T.post self.now.ty) }
         ensures { Gives (λ p. (p.0, p.1, p.2.now)) result (spec.list_with (below self.now.room) Component nesting tokens.now) }
     {
-        let mut found = Items::new(self.alloc);
-        let mut nesting = nesting;
-        let mut rest = tokens;
-        for _ in 0..MAX_LIST {
-            let (item, behind, next) = self.component(nesting, rest)?;
-            found.push(item)?;
-            let Some(next) = after(TerminalKind::Comma, next) else {
-                return Ok((found, behind, next));
-            };
-            nesting = behind.cleared();
-            rest = next;
-        }
-        Err(crowded(comes_type(rest), rest))
+        let item = |nesting, tokens| self.component(nesting, tokens);
+        list(self.alloc, nesting, tokens, item, comes_type)
     }
 
     /// Variables with or without types.
@@ -106,19 +106,8 @@ where
         requires { Nests self.now.room (E.pre self.now.expr) (E.post self.now.expr) (T.pre self.now.ty) (T.post self.now.ty) }
         ensures { Gives (λ p. (p.0, p.1, p.2.now)) result (spec.list_with (below self.now.room) Variable nesting tokens.now) }
     {
-        let mut found = Items::new(self.alloc);
-        let mut nesting = nesting;
-        let mut rest = tokens;
-        for _ in 0..MAX_LIST {
-            let (item, behind, next) = self.variable(nesting, rest)?;
-            found.push(item)?;
-            let Some(next) = after(TerminalKind::Comma, next) else {
-                return Ok((found, behind, next));
-            };
-            nesting = behind.cleared();
-            rest = next;
-        }
-        Err(crowded(comes_id(rest), rest))
+        let item = |nesting, tokens| self.variable(nesting, tokens);
+        list(self.alloc, nesting, tokens, item, comes_id)
     }
 
     /// Variables without types.
@@ -130,19 +119,7 @@ where
         requires { Nests self.now.room (E.pre self.now.expr) (E.post self.now.expr) (T.pre self.now.ty) (T.post self.now.ty) }
         ensures { Gives (λ p. (p.0, p.1, p.2.now)) result (spec.list_with (below self.now.room) BareVariable nesting tokens.now) }
     {
-        let mut found = Items::new(self.alloc);
-        let mut nesting = nesting;
-        let mut rest = tokens;
-        for _ in 0..MAX_LIST {
-            let (item, behind, next) = bare_variable(nesting, rest)?;
-            found.push(item)?;
-            let Some(next) = after(TerminalKind::Comma, next) else {
-                return Ok((found, behind, next));
-            };
-            nesting = behind.cleared();
-            rest = next;
-        }
-        Err(crowded(comes_id(rest), rest))
+        list(self.alloc, nesting, tokens, bare_variable, comes_id)
     }
 
     /// Parts of a LET.
@@ -154,19 +131,8 @@ where
         requires { Nests self.now.room (E.pre self.now.expr) (E.post self.now.expr) (T.pre self.now.ty) (T.post self.now.ty) }
         ensures { Gives (λ p. (p.0, p.1, p.2.now)) result (spec.list_with (below self.now.room) Definition nesting tokens.now) }
     {
-        let mut found = Items::new(self.alloc);
-        let mut nesting = nesting;
-        let mut rest = tokens;
-        for _ in 0..MAX_LIST {
-            let (item, behind, next) = self.definition(nesting, rest)?;
-            found.push(item)?;
-            let Some(next) = after(TerminalKind::Comma, next) else {
-                return Ok((found, behind, next));
-            };
-            nesting = behind.cleared();
-            rest = next;
-        }
-        Err(crowded(comes_id(rest), rest))
+        let item = |nesting, tokens| self.definition(nesting, tokens);
+        list(self.alloc, nesting, tokens, item, comes_id)
     }
 
     /// Expressions up to the parenthesis that ends them.
