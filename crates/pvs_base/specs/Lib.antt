@@ -1,2 +1,4 @@
 pub mod CodeName
 pub mod Place
+pub mod Spans
+pub mod Answers

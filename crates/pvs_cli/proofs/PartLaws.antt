@@ -6,7 +6,7 @@ use Rattle.pvs_base.specs.declared.code.Fault.{Fault}
 use Rattle.pvs_syntax.specs.declared.unit.Item.{Item}
 use Rattle.pvs_syntax.specs.declared.unit.Item.TheVariants as item
 use Rattle.pvs_parser.specs.Text.{SpanIn}
-use Rattle.pvs_cli.specs.Names.{spelling}
+use Rattle.pvs_syntax.specs.Words.{spelling}
 use Rattle.pvs_cli.specs.Entries.{Entry}
 use Rattle.pvs_cli.specs.Theories.{Part, part_of, parts_after, parts_of, theory_entries, theory_part}
 use Rattle.pvs_cli.specs.Verdicts.{IsPartIn}

@@ -15,8 +15,9 @@ use Rattle.pvs_syntax.specs.declared.unit.FormulaWord.TheVariants as formula_wor
 use Rattle.pvs_terms.specs.Tree.{Tree}
 use Rattle.pvs_cli.specs.declared.distinct.Declared.{Declared}
 use Rattle.pvs_cli.specs.declared.distinct.Declared.TheVariants as declared
-use Rattle.pvs_cli.specs.Names.{spelling}
-use Rattle.pvs_cli.specs.Entries.{Entry, EntryKind, Constant, Formula, ◌>>=◌, core, named, entries_after, entries_of}
+use Rattle.pvs_syntax.specs.Words.{spelling}
+use Rattle.pvs_cli.specs.Entries.{Entry, EntryKind, Constant, Formula, core, named, entries_after, entries_of}
+use Rattle.pvs_base.specs.Answers.{◌>>=◌}
 use Rattle.pvs_cli.specs.Theories.{declared_by, first_repeated, formula_name, formula_names, has_name, repeated}
 use Rattle.pvs_cli.specs.Verdicts.{lemma_formula, lemma_of, or_else, lemma_named}
 use Rattle.pvs_cli.proofs.IndexLaws.{any_push}

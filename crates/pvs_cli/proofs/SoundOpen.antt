@@ -14,7 +14,8 @@ use Rattle.pvs_parser.specs.Text.{IsAnswer}
 use Rattle.pvs_terms.specs.Tree.{Tree, Own, Const}
 use Rattle.pvs_sem.specs.Truth.{Interpretation}
 use Rattle.pvs_cli.specs.Forms as forms
-use Rattle.pvs_cli.specs.Entries.{Entry, Constant, Formula, ◌>>=◌, core, entries_after, entries_of, named, named_constant, not_built}
+use Rattle.pvs_cli.specs.Entries.{Entry, Constant, Formula, core, entries_after, entries_of, named, named_constant, not_built}
+use Rattle.pvs_base.specs.Answers.{◌>>=◌}
 use Rattle.pvs_cli.specs.Entries as entries_spec
 use Rattle.pvs_cli.specs.Theories.{first_repeated, once, theory_entries, theory_part}
 use Rattle.pvs_cli.specs.Lines.{Line, FormulaLine, TotalLine, OpenWord, totals_of}

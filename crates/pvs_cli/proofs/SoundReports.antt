@@ -7,7 +7,8 @@ use Rattle.pvs_syntax.specs.declared.unit.Item.TheVariants as item
 use Rattle.pvs_syntax.specs.declared.unit.FormulaWord.TheVariants as formula_word
 use Rattle.pvs_terms.specs.Tree.{Tree}
 use Rattle.pvs_sem.specs.Truth.{truth}
-use Rattle.pvs_cli.specs.Names.{FormulaName, is_among, spelling}
+use Rattle.pvs_cli.specs.Names.{FormulaName, is_among}
+use Rattle.pvs_syntax.specs.Words.{spelling}
 use Rattle.pvs_cli.specs.Entries.{Entry, EntryKind, Constant, Formula}
 use Rattle.pvs_cli.specs.Theories.{Part, Accepted, Rejected, Proving, parts_of, theory_entries}
 use Rattle.pvs_cli.specs.Replaying.{Outcome, Proved, Open, Refused}

@@ -9,7 +9,8 @@ use Rattle.pvs_syntax.specs.declared.unit.Item.{Item}
 use Rattle.pvs_syntax.specs.declared.unit.Item.TheVariants as item
 use Rattle.pvs_syntax.specs.declared.unit.FormulaWord.TheVariants as formula_word
 use Rattle.pvs_terms.specs.Tree.{Tree}
-use Rattle.pvs_cli.specs.Names.{FormulaName, spelling}
+use Rattle.pvs_cli.specs.Names.{FormulaName}
+use Rattle.pvs_syntax.specs.Words.{spelling}
 use Rattle.pvs_cli.specs.Forms.{is_built_theory}
 use Rattle.pvs_cli.specs.Entries.{Entry, Formula, entries_of, not_built}
 use Rattle.pvs_cli.specs.Theories.{Part, duplicate, first_repeated, has_name, once, part_of, parts_after, parts_of, theory_entries, theory_names, theory_part, told_entries}

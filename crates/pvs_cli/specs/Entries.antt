@@ -1,6 +1,7 @@
 -- The entries of a theory, and the core trees of its formulas.
 use Rattle.std.specs.Prelude.{◌&&◌, ℕ, ◌+◌, Bool, true, false, bytes_eq, if◌then◌else◌, List, [], ◌∷◌, ◌++◌, Option, Some, None, Result, Ok, Err, ⊤}
 use Rattle.pvs_base.specs.declared.place.Pos.{Pos}
+use Rattle.pvs_base.specs.Answers.{◌>>=◌}
 use Rattle.pvs_base.specs.declared.code.Fault.{Fault}
 use Rattle.pvs_base.specs.declared.code.Code.TheVariants as code
 use Rattle.pvs_syntax.specs.declared.word.Word.{Word}
@@ -13,7 +14,7 @@ use Rattle.pvs_syntax.specs.declared.unit.Decl.{Decl}
 use Rattle.pvs_syntax.specs.declared.unit.Decl.TheVariants as decl
 use Rattle.pvs_syntax.specs.declared.unit.FormulaWord.{FormulaWord}
 use Rattle.pvs_terms.specs.Tree.{Tree, Own, True, False, Const, If}
-use Rattle.pvs_cli.specs.Names.{spelling}
+use Rattle.pvs_syntax.specs.Words.{spelling}
 use Rattle.pvs_cli.specs.Forms.{plain}
 
 -- a boolean constant, or an axiom or a lemma with its formula
@@ -25,12 +26,6 @@ pub data EntryKind : Type 0 where
 pub record Entry : Type 0 where
   pub name : List ℕ
   pub kind : EntryKind
-
--- what answers a tree or the first fault goes on with the tree
-infixl 10 ◌>>=◌
-abbrev pub ◌>>=◌ : {A B : Type 0} → Result A Fault → (A → Result B Fault) → Result B Fault
-(Ok x) >>= f = f x
-(Err e) >>= f = Err e
 
 -- the fault of a form that is not built: its place is that of the name of the theory
 abbrev pub not_built : Pos → Fault

@@ -14,7 +14,7 @@ use Rattle.pvs_syntax.specs.declared.unit.Decl.TheVariants as decl
 use Rattle.pvs_syntax.specs.declared.unit.FormulaWord.{FormulaWord}
 use Rattle.pvs_syntax.specs.declared.unit.FormulaWord.TheVariants as formula_word
 use Rattle.pvs_syntax.specs.declared.unit.Theory.{Theory}
-use Rattle.pvs_cli.specs.Names.{spelling}
+use Rattle.pvs_syntax.specs.Words.{spelling}
 
 -- Each step gives of one layer of a tree what a form is, where the same of its parts stands in place of them: of an expression whether it is
 -- built, of a type and of a name the word where it is a plain name, and nothing of the rest.

@@ -1,12 +1,8 @@
 -- Names by their bytes.
-use Rattle.std.specs.Prelude.{◌&&◌, ◌-◌, ℕ, Bool, bytes_eq, List, take, drop}
+use Rattle.std.specs.Prelude.{◌&&◌, ℕ, Bool, bytes_eq, List}
 use Rattle.std.specs.List.{list_any}
-use Rattle.pvs_syntax.specs.declared.word.Word.{Word}
+use Rattle.pvs_syntax.specs.Words.{spelling}
 use Rattle.pvs_syntax.specs.declared.unit.Proof.{Proof}
-
--- the bytes of a word of a text
-abbrev pub spelling : List ℕ → Word → List ℕ
-spelling text w = take (w.end - w.start) (drop w.start text)
 
 -- a formula, by the names of its theory and its own
 pub record FormulaName : Type 0 where

@@ -6,7 +6,8 @@ use Rattle.pvs_syntax.specs.declared.unit.Item.{Item}
 use Rattle.pvs_syntax.specs.declared.unit.Unit as unit
 use Rattle.pvs_syntax.specs.declared.unit.FormulaWord.TheVariants as formula_word
 use Rattle.pvs_parser.specs.Text.{IsAnswer}
-use Rattle.pvs_cli.specs.Names.{FormulaName, spelling}
+use Rattle.pvs_cli.specs.Names.{FormulaName}
+use Rattle.pvs_syntax.specs.Words.{spelling}
 use Rattle.pvs_cli.specs.Entries.{Entry, EntryKind, Formula}
 use Rattle.pvs_cli.specs.Theories.{Part, Accepted, Rejected, Proving, parts_of}
 use Rattle.pvs_cli.specs.Replaying.{Outcome, Proved, Open, Refused}

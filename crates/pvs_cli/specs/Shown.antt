@@ -5,7 +5,7 @@ use Rattle.pvs_cli.specs.declared.entries.EntryKind as program_kind
 use Rattle.pvs_cli.specs.declared.entries.EntryKind.TheVariants as kind
 use Rattle.pvs_cli.specs.declared.theories.Part as program_part
 use Rattle.pvs_cli.specs.declared.theories.Part.TheVariants as part
-use Rattle.pvs_cli.specs.Names.{spelling}
+use Rattle.pvs_syntax.specs.Words.{spelling}
 use Rattle.pvs_cli.specs.Trees.{tree_of}
 use Rattle.pvs_cli.specs.Entries.{Entry, EntryKind, Constant, Formula}
 use Rattle.pvs_cli.specs.Theories.{Part, Accepted, Rejected, Proving}

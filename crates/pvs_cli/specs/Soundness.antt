@@ -8,7 +8,7 @@ use Rattle.pvs_syntax.specs.declared.unit.FormulaWord.TheVariants as formula_wor
 use Rattle.pvs_parser.specs.Text.{IsAnswer}
 use Rattle.pvs_terms.specs.Tree.{Tree}
 use Rattle.pvs_sem.specs.Truth.{Interpretation, truth}
-use Rattle.pvs_cli.specs.Names.{spelling}
+use Rattle.pvs_syntax.specs.Words.{spelling}
 use Rattle.pvs_cli.specs.Entries.{Entry, Formula}
 use Rattle.pvs_cli.specs.Theories.{theory_entries}
 use Rattle.pvs_cli.specs.Lines.{Line, FormulaLine, CompleteWord, bytes_of}

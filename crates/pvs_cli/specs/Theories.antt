@@ -13,7 +13,7 @@ use Rattle.pvs_syntax.specs.declared.unit.Item.{Item}
 use Rattle.pvs_syntax.specs.declared.unit.Item.TheVariants as item
 use Rattle.pvs_cli.specs.declared.distinct.Declared.{Declared}
 use Rattle.pvs_cli.specs.declared.distinct.Declared.TheVariants as declared
-use Rattle.pvs_cli.specs.Names.{spelling}
+use Rattle.pvs_syntax.specs.Words.{spelling}
 use Rattle.pvs_cli.specs.Forms.{is_built_theory}
 use Rattle.pvs_cli.specs.Entries.{Entry, entries_of, not_built}
 

@@ -3,7 +3,7 @@
 ghost use Rattle.std.specs.Prelude.{◌≡◌, ℕ, List, [], ◌∷◌, ◌++◌, IfOk, OnOk};
 ghost use Rattle.pvs_syntax.specs.declared.unit.Decl as spec_decl;
 ghost use Rattle.pvs_cli.specs.Index.{HasNames};
-ghost use Rattle.pvs_cli.specs.Names.{spelling};
+ghost use Rattle.pvs_syntax.specs.Words.{spelling};
 ghost use Rattle.pvs_cli.specs.Theories.{constant_name, constant_names, declared_by, first_repeated, formula_name, formula_names, repeated, repeated_in};
 
 use crate::index::{Index, add_name};

@@ -3,7 +3,7 @@
 ghost use Rattle.std.specs.Prelude.{◌≡◌, ℕ, List, ◌++◌, IfOk, OnOk};
 ghost use Rattle.pvs_syntax.specs.declared.unit.Item as spec_item;
 ghost use Rattle.pvs_cli.specs.Index.{HasNames};
-ghost use Rattle.pvs_cli.specs.Names.{spelling};
+ghost use Rattle.pvs_syntax.specs.Words.{spelling};
 ghost use Rattle.pvs_cli.specs.Outcomes.{GivesElab};
 ghost use Rattle.pvs_cli.specs.Shown.{entries_shown, part_shown, parts_shown};
 ghost use Rattle.pvs_cli.specs.Theories.{duplicate, part_of, parts_of, theory_name, theory_names, theory_part, told_entries};

@@ -2,7 +2,7 @@
 use Rattle.std.specs.Prelude.{◌≡◌, ◌==◌, ◌-◌, ℕ, Bool, min, List, [], ◌∷◌, ◌++◌, length, take, drop, is_some, map, String, string_bytes, Vec, if◌then◌else◌}
 use Rattle.std.specs.List.{list_any}
 use Rattle.pvs_io.specs.Held.{Held, content_of}
-use Rattle.pvs_io.specs.Outside.{raised}
+use Rattle.pvs_io.specs.Outside.{next_count}
 use Rattle.pvs_io.specs.declared.source.Took.{Took}
 use Rattle.pvs_io.specs.declared.source.Took.TheVariants as took
 use Rattle.pvs_io.specs.declared.sink.Gave.{Gave}
@@ -31,9 +31,9 @@ take_answer s places =
 
 -- the source after a take
 abbrev pub after_take : SourceState → Took → SourceState
-after_take s (took.Bytes n) = record s { left = drop n s.left; calls = raised s.calls }
-after_take s took.End = record s { calls = raised s.calls }
-after_take s took.Failed = record s { calls = raised s.calls; faults = raised s.faults }
+after_take s (took.Bytes n) = record s { left = drop n s.left; calls = next_count s.calls }
+after_take s took.End = record s { calls = next_count s.calls }
+after_take s took.Failed = record s { calls = next_count s.calls; faults = next_count s.faults }
 
 -- what a sink in memory was given, and how many bytes more it has room for; the calls that fail,
 -- counted from 0; how many calls there were, and how many failed
@@ -52,8 +52,8 @@ give_answer s count =
 
 -- the sink after a give of these bytes
 abbrev pub after_give : SinkState → List ℕ → Gave → SinkState
-after_give s bytes (gave.Bytes n) = record s { written = s.written ++ take n bytes; room = s.room - n; calls = raised s.calls }
-after_give s bytes gave.Failed = record s { calls = raised s.calls; faults = raised s.faults }
+after_give s bytes (gave.Bytes n) = record s { written = s.written ++ take n bytes; room = s.room - n; calls = next_count s.calls }
+after_give s bytes gave.Failed = record s { calls = next_count s.calls; faults = next_count s.faults }
 
 -- what files hold by their names and contents in the code
 abbrev pub held_of : {Y Z : Type 0} → List (String Y × Vec ℕ Z) → Held
@@ -77,7 +77,7 @@ load_answer s name =
 
 -- the files after a load of that name; where memory is wanting, the names that were asked for are left open
 abbrev pub IsAfterLoad : FilesState → FilesState → List ℕ → Load → Type 0
-IsAfterLoad old new name load.Done = new ≡ record old { asked = old.asked ++ name ∷ []; calls = raised old.calls }
+IsAfterLoad old new name load.Done = new ≡ record old { asked = old.asked ++ name ∷ []; calls = next_count old.calls }
 IsAfterLoad old new name load.Failed =
-    new ≡ record old { asked = old.asked ++ name ∷ []; calls = raised old.calls; faults = raised old.faults }
-IsAfterLoad old new name load.Memory = new ≡ record old { asked = new.asked; calls = raised old.calls }
+    new ≡ record old { asked = old.asked ++ name ∷ []; calls = next_count old.calls; faults = next_count old.faults }
+IsAfterLoad old new name load.Memory = new ≡ record old { asked = new.asked; calls = next_count old.calls }

@@ -9,12 +9,12 @@ use Rattle.pvs_io.specs.declared.files.Load.{Load}
 use Rattle.pvs_io.specs.declared.files.Load.TheVariants as load
 
 -- a count that rises by one, and stands still at the end of its type
-abbrev pub raised : ℕ → ℕ
-raised n = min (n + 1) (2 ^ 64 - 1)
+abbrev pub next_count : ℕ → ℕ
+next_count n = min (n + 1) (2 ^ 64 - 1)
 
 -- the count rose, or stands at the end of its type
 abbrev pub Rose : ℕ → ℕ → Type 0
-Rose before now = raised before ≤ now
+Rose before now = next_count before ≤ now
 
 -- the count of faults hasn't fallen, and a failure comes only where it rose
 pub record HasCause (before now : ℕ) (Fails : Type 0) : Type 0 where

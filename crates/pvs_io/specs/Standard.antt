@@ -1,7 +1,7 @@
 -- A source over a reader and a sink over a writer: what they do to it, and how often they failed.
 use Rattle.std.specs.Prelude.{ℕ, List, [], take, Option}
 use Rattle.std.specs.Io.KnownBytes.{Appends, Consumes, IsAtEnd, Keeps}
-use Rattle.pvs_io.specs.Outside.{raised}
+use Rattle.pvs_io.specs.Outside.{next_count}
 use Rattle.pvs_io.specs.declared.source.Took.{Took}
 use Rattle.pvs_io.specs.declared.source.Took.TheVariants as took
 use Rattle.pvs_io.specs.declared.sink.Gave.{Gave}
@@ -16,12 +16,12 @@ pub record Counted (Stream : Type 0) : Type 0 where
 abbrev pub faults_after_take : ℕ → Took → ℕ
 faults_after_take faults (took.Bytes n) = faults
 faults_after_take faults took.End = faults
-faults_after_take faults took.Failed = raised faults
+faults_after_take faults took.Failed = next_count faults
 
 -- the count of faults after a give: it rises exactly where the give failed
 abbrev pub faults_after_give : ℕ → Gave → ℕ
 faults_after_give faults (gave.Bytes n) = faults
-faults_after_give faults gave.Failed = raised faults
+faults_after_give faults gave.Failed = next_count faults
 
 -- what a take does to the bytes that a reader is known to have left
 abbrev pub TakesFrom : Option (List ℕ) → Option (List ℕ) → Took → List ℕ → Type 0

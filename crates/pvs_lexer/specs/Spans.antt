@@ -2,6 +2,7 @@
 use Rattle.std.specs.Prelude.{◌≡◌, ℕ, ◌-◌, ◌<◌, ◌≤◌, List, [], ◌∷◌, take, drop, Some}
 use Rattle.pvs_base.specs.declared.place.Pos.{Pos}
 use Rattle.pvs_base.specs.Place.{place_after}
+use Rattle.pvs_base.specs.Spans.{span_of}
 use Rattle.pvs_lexer.specs.declared.token.Token.{Token}
 use Rattle.pvs_lexer.specs.Tokens.{kind_of}
 
@@ -12,7 +13,7 @@ AreSpans from to (token ∷ tokens) = (from ≤ token.start) × (token.start < t
 
 -- the bytes of a span of a text
 abbrev pub bytes_of : List ℕ → Token → List ℕ
-bytes_of text token = take (token.end - token.start) (drop token.start text)
+bytes_of text token = span_of text token.start token.end
 
 -- a token of a text whose first byte has a place: its bytes are one token of its kind, and its place is that of its first byte
 pub record IsTokenOf (first : Pos) (text : List ℕ) (token : Token) : Type 0 where

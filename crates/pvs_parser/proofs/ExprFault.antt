@@ -6,7 +6,8 @@ use Rattle.pvs_parser.specs.declared.failure.Stop.{Stop}
 use Rattle.pvs_parser.specs.declared.terminal.Connective.TheVariants as connective
 use Rattle.pvs_syntax.specs.declared.expression.Expr.{Expr}
 use Rattle.pvs_parser.specs.Language.{Tokens, Limit, bounded, outermost, Form}
-use Rattle.pvs_parser.specs.Descent.{Answer, Read, ◌>>=◌, stop, deeper, reader, ended, expression}
+use Rattle.pvs_parser.specs.Descent.{Answer, Read, stop, deeper, reader, ended, expression}
+use Rattle.pvs_base.specs.Answers.{◌>>=◌}
 use Rattle.pvs_parser.specs.Faults.{Begins, IsWithin}
 use Rattle.pvs_parser.specs.Text.{IsExpr, Nowhere}
 use Rattle.pvs_parser.proofs.Halts.{Full, Why, Wider}

@@ -10,7 +10,8 @@ use Rattle.pvs_syntax.specs.declared.unit.Formal.{Formal}
 use Rattle.pvs_parser.specs.Terminals.{Is, is_id}
 use Rattle.pvs_parser.specs.Language.{Limit, IsBelow, HasRoom, Tokens, Derives, type_, outermost, inside}
 use Rattle.pvs_parser.specs.Units.{DerivesIds, DerivesTypeWord, DerivesFormal, DerivesFormals, DerivesFormalPart, type_formal, const_formal}
-use Rattle.pvs_parser.specs.Descent.{◌>>=◌, after, either, entries, starts_type}
+use Rattle.pvs_parser.specs.Descent.{after, either, entries, starts_type}
+use Rattle.pvs_base.specs.Answers.{◌>>=◌}
 use Rattle.pvs_parser.specs.UnitDescent.{type, plus, formal_of, formal_after, formal, formals_from, formals, formal_part}
 use Rattle.pvs_parser.proofs.Yields.{Yields, here, none, bind, cases, weaken}
 use Rattle.pvs_parser.proofs.Gets.{Gets, found, then_, there, absent, takes, after_is, has_room, both, unglue, from}

@@ -14,7 +14,8 @@ use Rattle.pvs_parser.specs.Terminals.{Is, IsId}
 use Rattle.pvs_parser.specs.Language as l
 use Rattle.pvs_parser.specs.Language.{Limit, Tokens, IsBelow, HasRoom, Derives, Form, Item, type_, outermost, inside}
 use Rattle.pvs_parser.specs.Units.{DerivesIds, DerivesTypeWord, DerivesVariables, DerivesParameters, DerivesBody, DerivesDecl, DerivesAssumed, formula_of}
-use Rattle.pvs_parser.specs.Descent.{◌>>=◌, expect}
+use Rattle.pvs_parser.specs.Descent.{expect}
+use Rattle.pvs_base.specs.Answers.{◌>>=◌}
 use Rattle.pvs_parser.specs.UnitDescent.{type, ids, variables, body, constant, function, constants, types, formulas, stated, declared_of, declared, named, begun, declaration, assumed_of, assumed_after, assumed}
 use Rattle.pvs_parser.proofs.Gets.{both}
 use Rattle.pvs_parser.proofs.DescentSteps.{after_yields, glue, put, alone, nothing}

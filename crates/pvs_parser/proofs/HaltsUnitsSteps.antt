@@ -7,7 +7,8 @@ use Rattle.pvs_parser.specs.declared.terminal.Terminal.{Terminal}
 use Rattle.pvs_syntax.specs.declared.word.Word.{Word}
 use Rattle.pvs_parser.specs.Terminals.{IsId, is_id}
 use Rattle.pvs_parser.specs.Language.{Limit, Tokens}
-use Rattle.pvs_parser.specs.Descent.{Answer, ◌>>=◌, stop, id}
+use Rattle.pvs_parser.specs.Descent.{Answer, stop, id}
+use Rattle.pvs_base.specs.Answers.{◌>>=◌}
 use Rattle.pvs_parser.specs.Faults.{BehindEnd}
 use Rattle.pvs_parser.proofs.DescentSteps.{Splits}
 use Rattle.pvs_parser.proofs.Halts.{Stops, stopped, weaken, at, deep, Wider, no_limit, same_limit, Full, NoComma, Why, Halts, Place, upto, within_inner}

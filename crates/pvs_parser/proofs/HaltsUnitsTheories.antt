@@ -8,8 +8,9 @@ use Rattle.pvs_syntax.specs.declared.unit.Decl.{Decl}
 use Rattle.pvs_syntax.specs.declared.unit.Formal.{Formal}
 use Rattle.pvs_parser.specs.Terminals.{Is, IsId}
 use Rattle.pvs_parser.specs.Language.{Limit, Tokens, IsBelow}
-use Rattle.pvs_parser.specs.Units.{DerivesFormalPart, DerivesDecl, DerivesAssumed, DerivesSemicolon, DerivesMany, DerivesAssuming, DerivesTheory, spelling}
-use Rattle.pvs_parser.specs.Descent.{◌>>=◌}
+use Rattle.pvs_parser.specs.Units.{DerivesFormalPart, DerivesDecl, DerivesAssumed, DerivesSemicolon, DerivesMany, DerivesAssuming, DerivesTheory}
+use Rattle.pvs_syntax.specs.Words.{spelling}
+use Rattle.pvs_base.specs.Answers.{◌>>=◌}
 use Rattle.pvs_parser.specs.UnitDescent.{declaration, assumed, comes_decl, past_semicolon, many_from, declarations, assumptions, assuming_part, heading, ending, theory}
 use Rattle.pvs_parser.proofs.Yields.{Yields}
 use Rattle.pvs_parser.proofs.Gets.{both}

@@ -8,7 +8,8 @@ use Rattle.pvs_syntax.specs.declared.unit.Proof.{Proof}
 use Rattle.pvs_parser.specs.Terminals.{Is, IsId}
 use Rattle.pvs_parser.specs.Language.{Limit, IsBelow, Tokens}
 use Rattle.pvs_parser.specs.Units.{Balanced, DerivesProof, is_plain}
-use Rattle.pvs_parser.specs.Descent.{Answer, ◌>>=◌, too_deep, is_below}
+use Rattle.pvs_parser.specs.Descent.{Answer, too_deep, is_below}
+use Rattle.pvs_base.specs.Answers.{◌>>=◌}
 use Rattle.pvs_parser.specs.UnitDescent.{balanced_of, balanced, script, target, proof}
 use Rattle.pvs_parser.proofs.Yields.{Yields, here, none, bind, weaken}
 use Rattle.pvs_parser.proofs.Gets.{Gets, found, then_, takes, names}

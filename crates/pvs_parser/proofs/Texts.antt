@@ -12,7 +12,8 @@ use Rattle.pvs_parser.specs.Descent.{Answer, expression}
 use Rattle.pvs_parser.specs.UnitDescent.{unit}
 use Rattle.pvs_parser.specs.Faults.{BehindEnd}
 use Rattle.pvs_parser.specs.Reading.{unless_fault, judged, read_text, read_span}
-use Rattle.pvs_parser.specs.Text.{Terminals, first_place, terminals_of_text, Reads, IsUnit, IsFirstFault, IsAnswer, span_of, terminals_of_span, IsExpr, Nowhere, ReadsSpan, IsFirstFaultOfSpan, IsSpanAnswer}
+use Rattle.pvs_parser.specs.Text.{Terminals, first_place, terminals_of_text, Reads, IsUnit, IsFirstFault, IsAnswer, terminals_of_span, IsExpr, Nowhere, ReadsSpan, IsFirstFaultOfSpan, IsSpanAnswer}
+use Rattle.pvs_base.specs.Spans.{span_of}
 use Rattle.pvs_parser.proofs.FirstFault.{one_first, no_first, first_fault}
 use Rattle.pvs_parser.proofs.ExprFault.{expr_reading}
 use Rattle.pvs_parser.proofs.UnitFault.{unit_reading}

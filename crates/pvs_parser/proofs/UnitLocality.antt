@@ -20,8 +20,10 @@ use Rattle.pvs_syntax.specs.declared.unit.Item.TheVariants as item
 use Rattle.pvs_syntax.specs.declared.unit.Unit as tree
 use Rattle.pvs_parser.specs.Terminals.{IsId, is_id, same_kind}
 use Rattle.pvs_parser.specs.Language.{Tokens, Limit, Item as ListItem, instance, cleared, outermost, inside}
-use Rattle.pvs_parser.specs.Units.{DerivesDecl, DerivesAssumed, type_formal, const_formal, type_decl, var_decl, const_decl, formula_of, spelling}
-use Rattle.pvs_parser.specs.Descent.{Answer, Read, ◌>>=◌, either, stop, too_many, too_deep, after, expect, id, is_below, crowded, list_from, entries}
+use Rattle.pvs_parser.specs.Units.{DerivesDecl, DerivesAssumed, type_formal, const_formal, type_decl, var_decl, const_decl, formula_of}
+use Rattle.pvs_syntax.specs.Words.{spelling}
+use Rattle.pvs_parser.specs.Descent.{Answer, Read, either, stop, too_many, too_deep, after, expect, id, is_below, crowded, list_from, entries}
+use Rattle.pvs_base.specs.Answers.{◌>>=◌}
 use Rattle.pvs_parser.specs.UnitDescent.{expr, type, name, ids, actuals, inst, instances_from, importing, plus, formal_of, formal_after, formal, formals_from, formals, formal_part, variables, body, constant, function, constants, type_definition, type_decls, types, formula, formulas, stated, declared_of, declared, named, begun, declaration, assumed_of, assumed_after, assumed, comes_kind, comes_decl, past_semicolon, many_from, declarations, assumptions, assuming_part, heading, same_name, ending, theory, balanced_of, balanced, script, target, proof, one_item, items_from, unit}
 use Rattle.pvs_parser.proofs.Yields.{Yields}
 use Rattle.pvs_parser.proofs.Deeper.{Fore}

@@ -11,7 +11,8 @@ use Rattle.pvs_syntax.specs.declared.unit.Item.{Item}
 use Rattle.pvs_syntax.specs.declared.unit.Unit as tree
 use Rattle.pvs_parser.specs.declared.declarations.Part.{Part}
 use Rattle.pvs_parser.specs.Language.{Limit, bounded, Tokens, outermost}
-use Rattle.pvs_parser.specs.Descent.{Answer, Read, ◌>>=◌, after, id, stop, ended, list_from}
+use Rattle.pvs_parser.specs.Descent.{Answer, Read, after, id, stop, ended, list_from}
+use Rattle.pvs_base.specs.Answers.{◌>>=◌}
 use Rattle.pvs_parser.specs.Nests.{comes, crowded_at}
 use Rattle.pvs_parser.specs.Terminals.{is_id}
 use Rattle.pvs_parser.proofs.DescentTurns.{crowded-at}

@@ -10,7 +10,8 @@ use Rattle.pvs_syntax.specs.declared.unit.Formal.{Formal}
 use Rattle.pvs_syntax.specs.declared.unit.Theory.{Theory}
 use Rattle.pvs_parser.specs.Terminals.{Is, IsId}
 use Rattle.pvs_parser.specs.Language.{Limit, IsBelow, Tokens}
-use Rattle.pvs_parser.specs.Units.{DerivesFormalPart, DerivesDecl, DerivesAssumed, DerivesMany, DerivesAssuming, DerivesTheory, spelling}
+use Rattle.pvs_parser.specs.Units.{DerivesFormalPart, DerivesDecl, DerivesAssumed, DerivesMany, DerivesAssuming, DerivesTheory}
+use Rattle.pvs_syntax.specs.Words.{spelling}
 use Rattle.pvs_parser.specs.Descent.{after}
 use Rattle.pvs_parser.specs.UnitDescent.{declaration, assumed, assumptions, assuming_part, heading, same_name, ending, theory, many_from}
 use Rattle.pvs_parser.proofs.Yields.{Yields, here, none, bind, cases}

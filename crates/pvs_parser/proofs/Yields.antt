@@ -1,7 +1,8 @@
 -- What is read, and what comes next, satisfies.
 use Rattle.std.proofs.Common.{◌≡◌, Option, Some, None, Ok, Err, refl, subst}
 use Rattle.pvs_parser.specs.declared.failure.Stop.{Stop}
-use Rattle.pvs_parser.specs.Descent.{Answer, ◌>>=◌, either}
+use Rattle.pvs_parser.specs.Descent.{Answer, either}
+use Rattle.pvs_base.specs.Answers.{◌>>=◌}
 
 -- what an answer that is good satisfies
 pub record Yields {A : Type 0} (o : Answer A) (Q : A → Type 0) : Type 0 where

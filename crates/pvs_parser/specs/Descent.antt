@@ -1,5 +1,6 @@
 -- Reading expressions and types from left to right. Where the tokens do not begin so, or nest too deep, reading stops.
 use Rattle.std.specs.Prelude.{◌≡◌, ℕ, zero, suc, ◌+◌, ◌||◌, nat_lt, Bool, true, false, if◌then◌else◌, List, [], ◌∷◌, ◌++◌, length, Option, Some, None, Result, Ok, Err, ⊤}
+use Rattle.pvs_base.specs.Answers.{◌>>=◌}
 use Rattle.pvs_parser.specs.declared.failure.Failure.{Failure}
 use Rattle.pvs_parser.specs.declared.failure.Failure.TheVariants as failure
 use Rattle.pvs_parser.specs.declared.failure.Reason.TheVariants as reason
@@ -32,11 +33,6 @@ use Rattle.pvs_parser.specs.Language.{Limit, outermost, level, marked, held, ins
 -- what is read, or where reading stops
 abbrev pub Answer : Type 0 → Type 0
 Answer A = Result A Stop
-
-infixl 10 ◌>>=◌
-abbrev pub ◌>>=◌ : {A B : Type 0} → Answer A → (A → Answer B) → Answer B
-(Ok x) >>= f = f x
-(Err s) >>= f = Err s
 
 -- what a value that may be there leads to, or else another answer
 abbrev pub either : {A B : Type 0} → Option A → (A → B) → B → B

@@ -17,7 +17,8 @@ use Rattle.pvs_parser.specs.Faults.{code_of, last_fault}
 use Rattle.pvs_parser.specs.Language.{Tokens, bounded}
 use Rattle.pvs_parser.specs.Descent.{Answer, expression}
 use Rattle.pvs_parser.specs.UnitDescent.{unit}
-use Rattle.pvs_parser.specs.Text.{Terminals, first_place, terminals_of_text, span_of, terminals_of_span}
+use Rattle.pvs_parser.specs.Text.{Terminals, first_place, terminals_of_text, terminals_of_span}
+use Rattle.pvs_base.specs.Spans.{span_of}
 
 -- ---- Where reading stops, as a fault.
 

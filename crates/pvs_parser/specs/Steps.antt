@@ -6,7 +6,8 @@ use Rattle.pvs_syntax.specs.declared.word.Word.{Word}
 use Rattle.pvs_syntax.specs.declared.expression.TypeExpr.{TypeExpr}
 use Rattle.pvs_syntax.specs.declared.unit.Decl.{Decl}
 use Rattle.pvs_parser.specs.Language.{Limit, Tokens}
-use Rattle.pvs_parser.specs.Descent.{Answer, ◌>>=◌}
+use Rattle.pvs_parser.specs.Descent.{Answer}
+use Rattle.pvs_base.specs.Answers.{◌>>=◌}
 use Rattle.pvs_parser.specs.UnitDescent.{declaration, assumed}
 
 -- a declaration of a part of a theory

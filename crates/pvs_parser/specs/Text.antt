@@ -5,6 +5,7 @@ use Rattle.pvs_base.specs.declared.code.Code.TheVariants as code
 use Rattle.pvs_base.specs.declared.code.Fault.{Fault}
 use Rattle.pvs_base.specs.declared.place.Pos.{Pos}
 use Rattle.pvs_base.specs.Place.{place_after, place_at}
+use Rattle.pvs_base.specs.Spans.{span_of}
 use Rattle.pvs_lexer.specs.declared.token.Token.{Token}
 use Rattle.pvs_lexer.specs.declared.token.TokenKind.{TokenKind}
 use Rattle.pvs_lexer.specs.declared.token.TokenKind.TheVariants as token
@@ -201,10 +202,6 @@ abbrev pub SpansIn : List ℕ → tree.Unit → Type 0
 SpansIn text u = All (SpanIn text) u.items
 
 -- ---- Expressions in quotes.
-
--- the bytes from one offset of a text up to another
-abbrev pub span_of : List ℕ → ℕ → ℕ → List ℕ
-span_of text start end = take (end - start) (drop start text)
 
 abbrev pub terminals_of_span : List ℕ → ℕ → ℕ → Pos → Terminals
 terminals_of_span text start end pos = terminals true start pos (span_of text start end)

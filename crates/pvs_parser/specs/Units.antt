@@ -7,6 +7,7 @@ use Rattle.pvs_parser.specs.declared.terminal.Terminal.{Terminal}
 use Rattle.pvs_parser.specs.declared.terminal.TerminalKind.{TerminalKind}
 use Rattle.pvs_parser.specs.declared.terminal.TerminalKind.TheVariants as kind
 use Rattle.pvs_syntax.specs.declared.word.Word.{Word}
+use Rattle.pvs_syntax.specs.Words.{spelling}
 use Rattle.pvs_syntax.specs.declared.expression.Binding.{Binding}
 use Rattle.pvs_syntax.specs.declared.expression.Expr.{Expr}
 use Rattle.pvs_syntax.specs.declared.expression.InstExpr.{InstExpr}
@@ -49,10 +50,6 @@ abbrev pub formula_of : TerminalKind → Option FormulaWord
 formula_of kind.Axiom = Some formula_word.Axiom
 formula_of kind.Lemma = Some formula_word.Lemma
 formula_of _ = None
-
--- the bytes of a word of a text
-abbrev pub spelling : List ℕ → Word → List ℕ
-spelling text w = take (w.end - w.start) (drop w.start text)
 
 -- ---- Declarations.
 

@@ -3,7 +3,7 @@
 ghost use Rattle.std.specs.Prelude.{◌≡◌, bytes_eq};
 ghost use Rattle.pvs_parser.specs.Descent.{Gives};
 ghost use Rattle.pvs_parser.specs.Language.{bounded};
-ghost use Rattle.pvs_parser.specs.Units.{spelling};
+ghost use Rattle.pvs_syntax.specs.Words.{spelling};
 ghost use Rattle.pvs_parser.specs.UnitDescent as spec;
 
 use crate::declarations::{Decls, Part, declarations};

@@ -11,7 +11,8 @@ use Rattle.pvs_script.specs.declared.state.State.TheVariants as state
 use Rattle.pvs_script.specs.Grammar.{BeginsScript}
 use Rattle.pvs_script.specs.Faults.{MayBegin, AllMayBegin, IsRefused}
 use Rattle.pvs_script.specs.States.{step, depth, is_deep}
-use Rattle.pvs_script.specs.Reading.{◌>>=◌, fault_at, limited, take_token, take_tokens}
+use Rattle.pvs_script.specs.Reading.{fault_at, limited, take_token, take_tokens}
+use Rattle.pvs_base.specs.Answers.{◌>>=◌}
 use Rattle.pvs_script.proofs.Runs.{Tokens, bind, run, runs_on}
 use Rattle.pvs_script.proofs.Taken.{begins_runs}
 use Rattle.pvs_script.proofs.Meant.{means, means_begins}

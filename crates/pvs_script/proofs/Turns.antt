@@ -7,7 +7,8 @@ use Rattle.pvs_lexer.specs.Answers.{first_of, behind_first, answer_of, behind_an
 use Rattle.pvs_lexer.specs.Tokens.{Lexed}
 use Rattle.pvs_script.specs.declared.state.State.{State}
 use Rattle.pvs_script.specs.Tokens.{lexeme}
-use Rattle.pvs_script.specs.Reading.{◌>>=◌, take_token, take_tokens, read_lexed}
+use Rattle.pvs_script.specs.Reading.{take_token, take_tokens, read_lexed}
+use Rattle.pvs_base.specs.Answers.{◌>>=◌}
 
 pub bind_bind : {A B C : Type 0} (r : Result A Fault) (f : A → Result B Fault) (g : B → Result C Fault) → ((r >>= f) >>= g) ≡ (r >>= λ x. f x >>= g)
 bind_bind (Ok x) f g = refl

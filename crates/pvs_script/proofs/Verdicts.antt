@@ -14,7 +14,8 @@ use Rattle.pvs_script.specs.declared.state.State.TheVariants as state
 use Rattle.pvs_script.specs.Tokens.{lexed, lexemes, end_place}
 use Rattle.pvs_script.specs.Grammar.{DerivesScript, BeginsScript, IsShallow, IsScript}
 use Rattle.pvs_script.specs.Faults.{AllMayBegin, IsRefused, IsFirstFault}
-use Rattle.pvs_script.specs.Reading.{◌>>=◌, Gives, fault_at, take_token, take_tokens, whole, ending, read_span, script_of}
+use Rattle.pvs_script.specs.Reading.{Gives, fault_at, take_token, take_tokens, whole, ending, read_span, script_of}
+use Rattle.pvs_base.specs.Answers.{◌>>=◌}
 use Rattle.pvs_script.proofs.Runs.{Tokens, bind, run, run-append, some_same}
 use Rattle.pvs_script.proofs.Taken.{whole_taken}
 use Rattle.pvs_script.proofs.Meant.{means, means_begins, means_derived}

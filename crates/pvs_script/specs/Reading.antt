@@ -5,6 +5,7 @@ use Rattle.pvs_base.specs.declared.code.Code.{Code}
 use Rattle.pvs_base.specs.declared.code.Code.TheVariants.{OutOfProfile, TooNested}
 use Rattle.pvs_base.specs.declared.place.Pos.{Pos}
 use Rattle.pvs_base.specs.Place.{place_after}
+use Rattle.pvs_base.specs.Answers.{◌>>=◌}
 use Rattle.pvs_lexer.specs.Tokens.{Lexed, tokens_of}
 use Rattle.pvs_syntax.specs.declared.unit.Proof.{Proof}
 use Rattle.pvs_script.specs.declared.fault.ScriptFault.{ScriptFault}
@@ -13,7 +14,7 @@ use Rattle.pvs_script.specs.declared.lexeme.Lexeme.{Lexeme}
 use Rattle.pvs_script.specs.declared.tree.Script.{Script}
 use Rattle.pvs_script.specs.declared.state.State.{State}
 use Rattle.pvs_script.specs.declared.state.State.TheVariants as state
-use Rattle.pvs_script.specs.Tokens.{lexeme, span_of}
+use Rattle.pvs_script.specs.Tokens.{lexeme, script_span}
 use Rattle.pvs_script.specs.States.{step, is_deep}
 
 -- What a function returned is what reading gives, unless memory ran out.
@@ -27,11 +28,6 @@ Gives (Err e) read = Fails e read
 
 abbrev pub fault_at : Pos → Code → Fault
 fault_at at code = record { pos = at; code = code }
-
-infixl 10 ◌>>=◌
-abbrev pub ◌>>=◌ : {A B : Type 0} → Result A Fault → (A → Result B Fault) → Result B Fault
-(Ok x) >>= f = f x
-(Err e) >>= f = Err e
 
 -- what a token at a place leads to, at most 200 levels deep
 abbrev pub limited : Pos → Option State → Result State Fault
@@ -63,4 +59,4 @@ unfoldable pub read_span : Pos → List ℕ → Result Script Fault
 read_span first span = read_lexed first span (tokens_of first span) state.Start
 
 abbrev pub script_of : List ℕ → Proof → Result Script Fault
-script_of text proof = read_span proof.pos (span_of text proof)
+script_of text proof = read_span proof.pos (script_span text proof)

@@ -4,6 +4,7 @@ use Rattle.std.specs.Char.{is_ascii_digit}
 use Rattle.std.specs.Str.{bytes_eq}
 use Rattle.pvs_base.specs.declared.place.Pos.{Pos}
 use Rattle.pvs_base.specs.Place.{place_after}
+use Rattle.pvs_base.specs.Spans.{span_of}
 use Rattle.pvs_lexer.specs.declared.token.Token.{Token}
 use Rattle.pvs_lexer.specs.declared.token.TokenKind.{TokenKind}
 use Rattle.pvs_lexer.specs.declared.token.TokenKind.TheVariants as kind
@@ -73,16 +74,16 @@ lexeme span t = record {
 -- ---- The tokens of a span.
 
 -- the bytes of the script
-abbrev pub span_of : List ℕ → Proof → List ℕ
-span_of text proof = take (proof.end - proof.start) (drop proof.start text)
+abbrev pub script_span : List ℕ → Proof → List ℕ
+script_span text proof = span_of text proof.start proof.end
 
 -- the tokens of the span, with the lexical fault behind them, if there is one
 abbrev pub lexed : List ℕ → Proof → Lexed
-lexed text proof = tokens_of proof.pos (span_of text proof)
+lexed text proof = tokens_of proof.pos (script_span text proof)
 
 abbrev pub lexemes : List ℕ → Proof → List Lexeme
-lexemes text proof = map (lexeme (span_of text proof)) (lexed text proof).tokens
+lexemes text proof = map (lexeme (script_span text proof)) (lexed text proof).tokens
 
 -- the place after the last byte of the span
 abbrev pub end_place : List ℕ → Proof → Pos
-end_place text proof = place_after proof.pos (span_of text proof)
+end_place text proof = place_after proof.pos (script_span text proof)

@@ -3,11 +3,11 @@ use Rattle.std.proofs.Common.{◌≡◌, List, [], ◌∷◌, refl, ap, ap₂}
 use Rattle.pvs_terms.specs.Stored.{Stored, Extends}
 use Rattle.pvs_subst.specs.declared.context.Assumed.{Assumed}
 use Rattle.pvs_subst.specs.declared.context.Assumed.TheVariants as assumed
-use Rattle.pvs_subst.specs.Contexts.{Bind, Hyp, assumption_at, context_at, IsAssumed, IsContext}
+use Rattle.pvs_subst.specs.Contexts.{Variable, Hypothesis, assumption_at, context_at, IsAssumed, IsContext}
 
 assumption_at-extends : (s t : Stored) (x : Assumed) → Extends s t → IsAssumed s x → assumption_at t x ≡ assumption_at s x
-assumption_at-extends s t (assumed.Bind i) e h = ap Bind (e.trees i h)
-assumption_at-extends s t (assumed.Hyp i) e h = ap Hyp (e.trees i h)
+assumption_at-extends s t (assumed.Bind i) e h = ap Variable (e.trees i h)
+assumption_at-extends s t (assumed.Hyp i) e h = ap Hypothesis (e.trees i h)
 
 assumed_extends : (s t : Stored) (x : Assumed) → Extends s t → IsAssumed s x → IsAssumed t x
 assumed_extends s t (assumed.Bind i) e h = e.nodes i h

@@ -1,7 +1,7 @@
 -- What an instance is given, and what it makes, in a store that has grown.
 use Rattle.std.proofs.Common.{◌≡◌, ℕ, zero, suc, ◌<◌, List, [], ◌∷◌, length, insert, refl, sym, ◌∙◌, ap, ap₂, subst, arith}
 use Rattle.std.specs.Prelude.{slice_index_or}
-use Rattle.pvs_terms.specs.Tree.{Tree, Trees, more, If, Fits, AreClosed, trees_length}
+use Rattle.pvs_terms.specs.Tree.{Tree, Trees, more, If, IsWithinLimits, AreClosed, trees_length}
 use Rattle.pvs_terms.specs.Stored.{Stored, tree_at, trees_at, text_at, IsNode, AreNodes, AllBelow, Extends, Stands, StandsAs}
 use Rattle.pvs_terms.specs.declared.shape.Shape.TheVariants.{Choose}
 use Rattle.pvs_terms.proofs.StoredLaws.{trees_at-extends, nodes_extend}
@@ -64,10 +64,10 @@ pub rest_fits : {x : Tree} {xs : Trees} → FitTogether (more x xs) → FitToget
 rest_fits f = record { deep = omega (arith, f.deep); large = omega (arith, f.large); index = omega (arith, f.index) }
 
 -- the parts of a choice
-pub second_fits : {x y z : Tree} → Fits (If x y z) → Fits y
+pub second_fits : {x y z : Tree} → IsWithinLimits (If x y z) → IsWithinLimits y
 second_fits f = record { deep = omega (arith, f.deep); large = omega (arith, f.large); index = omega (arith, f.index) }
 
-pub third_fits : {x y z : Tree} → Fits (If x y z) → Fits z
+pub third_fits : {x y z : Tree} → IsWithinLimits (If x y z) → IsWithinLimits z
 third_fits f = record { deep = omega (arith, f.deep); large = omega (arith, f.large); index = omega (arith, f.index) }
 
 pub choose_made : {s t u : Stored} {th : ℕ} {acts : List ℕ} {x y z : ℕ} (a b c : ℕ) → Extends s t → Extends t u → IsGiven s th acts → IsNode s b → IsNode s c

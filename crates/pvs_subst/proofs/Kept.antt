@@ -1,6 +1,6 @@
 -- What stands after several calls that keep every number.
 use Rattle.std.proofs.Common.{◌≡◌, ℕ, refl, sym, ◌∙◌, ap, subst}
-use Rattle.pvs_terms.specs.Tree.{Tree, If, Fits}
+use Rattle.pvs_terms.specs.Tree.{Tree, If, IsWithinLimits}
 use Rattle.pvs_terms.specs.Stored.{Stored, tree_at, IsNode, Extends, Stands, StandsAs}
 use Rattle.pvs_terms.specs.declared.shape.Shape.TheVariants.{Choose}
 
@@ -13,8 +13,8 @@ pub stays : {s t u : Stored} {i : ℕ} → Extends s t → Extends t u → IsNod
 stays {i = i} x y h = record { node = y.nodes i (x.nodes i h); tree = y.trees i (x.nodes i h) ∙ x.trees i h }
 
 -- a number that stands for a tree that the operation leaves as it is
-pub stands_unchanged : {s : Stored} {i : ℕ} {t : Tree} → IsNode s i → Fits (tree_at s i) → t ≡ tree_at s i → Stands s t i
-stands_unchanged h f e = record { node = h; tree = sym e; fits = subst Fits (sym e) f }
+pub stands_unchanged : {s : Stored} {i : ℕ} {t : Tree} → IsNode s i → IsWithinLimits (tree_at s i) → t ≡ tree_at s i → Stands s t i
+stands_unchanged h f e = record { node = h; tree = sym e; fits = subst IsWithinLimits (sym e) f }
 
 -- the three parts of a choice, each made by the operation in turn
 pub choose_stands : (g : Tree → Tree → Tree) {s t u v : Stored} (a b c d : ℕ) {x y z : ℕ} → Extends s t → Extends t u → Extends u v → IsNode s b → IsNode s c → IsNode s d

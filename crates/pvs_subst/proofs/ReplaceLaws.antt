@@ -2,28 +2,28 @@
 use Rattle.std.proofs.Common.{◌≡◌, ℕ, zero, suc, ◌+◌, ◌-◌, ◌<◌, ◌≤◌, refl, ap, ◌∙◌, sym, arith, inl, inr, ◌⊎◌}
 use Rattle.std.proofs.lemmas.Bool.{cases_lt}
 use Rattle.pvs_terms.specs.Tree.{Tree, Leaf, Var, Name, Bind, Join, Project, If, free_below}
-use Rattle.pvs_subst.specs.Replace.{raised, lift, put_var, put_at, put_in}
+use Rattle.pvs_subst.specs.Replace.{raised_index, lift, put_var, put_at, put_in}
 
 -- an index by comparison
-pub raised_below : (by from n : ℕ) → n < from → raised by from n ≡ n
+pub raised_below : (by from n : ℕ) → n < from → raised_index by from n ≡ n
 raised_below by zero n h = absurd (omega arith)
 raised_below by (suc from) zero h = refl
 raised_below by (suc from) (suc n) h = ap suc (raised_below by from n (omega arith))
 
-pub raised_above : (by from n : ℕ) → from ≤ n → raised by from n ≡ n + by
+pub raised_above : (by from n : ℕ) → from ≤ n → raised_index by from n ≡ n + by
 raised_above by zero n h = refl
 raised_above by (suc from) zero h = absurd (omega arith)
 raised_above by (suc from) (suc n) h = omega (arith, raised_above by from n (omega arith))
 
 -- the two cases of an index
-raised_cases : (by from n : ℕ) → ((n < from) × (raised by from n ≡ n)) ⊎ ((from ≤ n) × (raised by from n ≡ n + by))
+raised_cases : (by from n : ℕ) → ((n < from) × (raised_index by from n ≡ n)) ⊎ ((from ≤ n) × (raised_index by from n ≡ n + by))
 raised_cases by from n = elim (cases_lt n from) [ inl h ↦ inl (h, raised_below by from n h) | inr h ↦ inr (h, raised_above by from n h) ]
 
-raised_within : (b c f g n : ℕ) → f ≤ g → g ≤ f + b → raised c g (raised b f n) ≡ raised (b + c) f n
-raised_within b c f g n p q = go (raised_cases b f n) (raised_cases c g (raised b f n)) (raised_cases (b + c) f n)
+raised_within : (b c f g n : ℕ) → f ≤ g → g ≤ f + b → raised_index c g (raised_index b f n) ≡ raised_index (b + c) f n
+raised_within b c f g n p q = go (raised_cases b f n) (raised_cases c g (raised_index b f n)) (raised_cases (b + c) f n)
   where
-    go : ((n < f) × (raised b f n ≡ n)) ⊎ ((f ≤ n) × (raised b f n ≡ n + b)) → ((raised b f n < g) × (raised c g (raised b f n) ≡ raised b f n)) ⊎ ((g ≤ raised b f n) × (raised c g (raised b f n) ≡ raised b f n + c))
-        → ((n < f) × (raised (b + c) f n ≡ n)) ⊎ ((f ≤ n) × (raised (b + c) f n ≡ n + (b + c))) → raised c g (raised b f n) ≡ raised (b + c) f n
+    go : ((n < f) × (raised_index b f n ≡ n)) ⊎ ((f ≤ n) × (raised_index b f n ≡ n + b)) → ((raised_index b f n < g) × (raised_index c g (raised_index b f n) ≡ raised_index b f n)) ⊎ ((g ≤ raised_index b f n) × (raised_index c g (raised_index b f n) ≡ raised_index b f n + c))
+        → ((n < f) × (raised_index (b + c) f n ≡ n)) ⊎ ((f ≤ n) × (raised_index (b + c) f n ≡ n + (b + c))) → raised_index c g (raised_index b f n) ≡ raised_index (b + c) f n
     go (inl x) (inl y) (inl z) = omega (arith, x.1, y.1, z.1)
     go (inl x) (inl y) (inr z) = omega (arith, x.0, z.0)
     go (inl x) (inr y) z = omega (arith, x.0, x.1, y.0, p)
@@ -31,10 +31,10 @@ raised_within b c f g n p q = go (raised_cases b f n) (raised_cases c g (raised 
     go (inr x) (inr y) (inl z) = omega (arith, x.0, z.0)
     go (inr x) (inr y) (inr z) = omega (arith, x.1, y.1, z.1)
 
-raised_past : (a b i j m n : ℕ) → i ≤ j → m ≡ j + a → raised b m (raised a i n) ≡ raised a i (raised b j n)
+raised_past : (a b i j m n : ℕ) → i ≤ j → m ≡ j + a → raised_index b m (raised_index a i n) ≡ raised_index a i (raised_index b j n)
 raised_past a b i j m n p e = go (cases_lt n i) (cases_lt n j)
   where
-    go : (n < i) ⊎ (i ≤ n) → (n < j) ⊎ (j ≤ n) → raised b m (raised a i n) ≡ raised a i (raised b j n)
+    go : (n < i) ⊎ (i ≤ n) → (n < j) ⊎ (j ≤ n) → raised_index b m (raised_index a i n) ≡ raised_index a i (raised_index b j n)
     go (inl x) y =
         let ra = raised_below a i n x in
         let rb = raised_below b j n (omega (arith, x, p)) in
@@ -72,14 +72,14 @@ lift-lift_past (Project o x) a b i j m p e = ap (Project o) (lift-lift_past x a 
 lift-lift_past (If x y z) a b i j m p e = rw (lift-lift_past x a b i j m p e, lift-lift_past y a b i j m p e, lift-lift_past z a b i j m p e) refl
 
 -- lifting by nothing, and lifting what has no index to raise
-raised-none : (f n : ℕ) → raised 0 f n ≡ n
-raised-none zero n = omega arith
-raised-none (suc f) zero = refl
-raised-none (suc f) (suc n) = ap suc (raised-none f n)
+raised_index-none : (f n : ℕ) → raised_index 0 f n ≡ n
+raised_index-none zero n = omega arith
+raised_index-none (suc f) zero = refl
+raised_index-none (suc f) (suc n) = ap suc (raised_index-none f n)
 
 pub lift-none : (t : Tree) (f : ℕ) → lift t 0 f ≡ t
 lift-none (Leaf o) f = refl
-lift-none (Var n) f = ap Var (raised-none f n)
+lift-none (Var n) f = ap Var (raised_index-none f n)
 lift-none (Name s r) f = refl
 lift-none (Bind o x y) f = rw (lift-none x f, lift-none y (suc f)) refl
 lift-none (Join o x y) f = rw (lift-none x f, lift-none y f) refl
@@ -126,15 +126,15 @@ put_at-closed (Project o x) u at h = ap (Project o) (put_at-closed x u at h)
 put_at-closed (If x y z) u at h = rw (put_at-closed x u at (omega (arith, h)), put_at-closed y u at (omega (arith, h)), put_at-closed z u at (omega (arith, h))) refl
 
 -- putting in for an index that lifting left out undoes one step of the lifting
-put_var-raised : (u : Tree) (b f at n : ℕ) → f ≤ at → at ≤ f + b → put_var u at (raised (suc b) f n) ≡ Var (raised b f n)
-put_var-raised u b f at n p q = elim (cases_lt n f) [
+put_var-raised_index : (u : Tree) (b f at n : ℕ) → f ≤ at → at ≤ f + b → put_var u at (raised_index (suc b) f n) ≡ Var (raised_index b f n)
+put_var-raised_index u b f at n p q = elim (cases_lt n f) [
   | inl h ↦ rw (raised_below (suc b) f n h, raised_below b f n h) (put_var_below u at n (omega (arith, h, p)))
   | inr h ↦ rw (raised_above (suc b) f n h, raised_above b f n h) (put_var_above u at (n + suc b) (omega (arith, h, q)) ∙ ap Var (omega arith))
 ]
 
 pub put_at-lift : (t u : Tree) (b f at : ℕ) → f ≤ at → at ≤ f + b → put_at (lift t (suc b) f) u at ≡ lift t b f
 put_at-lift (Leaf o) u b f at p q = refl
-put_at-lift (Var n) u b f at p q = put_var-raised u b f at n p q
+put_at-lift (Var n) u b f at p q = put_var-raised_index u b f at n p q
 put_at-lift (Name s r) u b f at p q = refl
 put_at-lift (Bind o x y) u b f at p q = rw (put_at-lift x u b f at p q, put_at-lift y u b (suc f) (suc at) (omega (arith, p)) (omega (arith, q))) refl
 put_at-lift (Join o x y) u b f at p q = rw (put_at-lift x u b f at p q, put_at-lift y u b f at p q) refl
@@ -146,9 +146,9 @@ pub put_in-lift : (t u : Tree) → put_in (lift t 1 0) u ≡ t
 put_in-lift t u = put_at-lift t u 0 0 0 (omega arith) (omega arith) ∙ lift-none t 0
 
 -- lifting past putting in, from an index that is not greater
-lift-put_var_below : (u : Tree) (by from at m n : ℕ) → from ≤ at → m ≡ at + by → lift (put_var u at n) by from ≡ put_var u m (raised by from n)
+lift-put_var_below : (u : Tree) (by from at m n : ℕ) → from ≤ at → m ≡ at + by → lift (put_var u at n) by from ≡ put_var u m (raised_index by from n)
 lift-put_var_below u by from at m n p e = elim (three_cases n at) [
-  | inl h ↦ rw (put_var_below u at n h) (sym (put_var_below u m (raised by from n) (below h)))
+  | inl h ↦ rw (put_var_below u at n h) (sym (put_var_below u m (raised_index by from n) (below h)))
   | inr h ↦ elim h [
     | inl k ↦ rw (k, put_var_at u at, raised_above by from at p) (lift-lift_within u at by 0 from (omega arith) (omega (arith, p)) ∙ sym (put_var_at u (at + by)) ∙ ap (λ x. put_var u x (at + by)) (sym e))
     | inr k ↦
@@ -157,7 +157,7 @@ lift-put_var_below u by from at m n p e = elim (three_cases n at) [
   ]
 ]
   where
-    below : n < at → raised by from n < m
+    below : n < at → raised_index by from n < m
     below h = elim (cases_lt n from) [ inl k ↦ omega (arith, raised_below by from n k, h, e) | inr k ↦ omega (arith, raised_above by from n k, h, e) ]
 
 pub lift-put_at_below : (t u : Tree) (by from at m : ℕ) → from ≤ at → m ≡ at + by → lift (put_at t u at) by from ≡ put_at (lift t by from) u m
@@ -170,7 +170,7 @@ lift-put_at_below (Project o x) u by from at m p e = ap (Project o) (lift-put_at
 lift-put_at_below (If x y z) u by from at m p e = rw (lift-put_at_below x u by from at m p e, lift-put_at_below y u by from at m p e, lift-put_at_below z u by from at m p e) refl
 
 -- lifting past putting in, from an index that is not less: the term that is put in is lifted too
-lift-put_var_above : (u : Tree) (by from at k n : ℕ) → from ≡ at + k → lift (put_var u at n) by from ≡ put_var (lift u by k) at (raised by (suc from) n)
+lift-put_var_above : (u : Tree) (by from at k n : ℕ) → from ≡ at + k → lift (put_var u at n) by from ≡ put_var (lift u by k) at (raised_index by (suc from) n)
 lift-put_var_above u by from at k n e = elim (three_cases n at) [
   | inl h ↦ rw (put_var_below u at n h, raised_below by (suc from) n (omega (arith, h, e))) (ap Var (raised_below by from n (omega (arith, h, e))) ∙ sym (put_var_below (lift u by k) at n h))
   | inr h ↦ elim h [
@@ -179,7 +179,7 @@ lift-put_var_above u by from at k n e = elim (three_cases n at) [
   ]
 ]
   where
-    above : at < n → (n < suc from) ⊎ (suc from ≤ n) → lift (Var (n - 1)) by from ≡ put_var (lift u by k) at (raised by (suc from) n)
+    above : at < n → (n < suc from) ⊎ (suc from ≤ n) → lift (Var (n - 1)) by from ≡ put_var (lift u by k) at (raised_index by (suc from) n)
     above i (inl j) = rw (raised_below by (suc from) n j) (ap Var (raised_below by from (n - 1) (omega (arith, i, j))) ∙ sym (put_var_above (lift u by k) at n i))
     above i (inr j) = rw (raised_above by (suc from) n j) (ap Var (raised_above by from (n - 1) (omega (arith, i, j))) ∙ ap Var (omega (arith, i)) ∙ sym (put_var_above (lift u by k) at (n + by) (omega (arith, i))))
 

@@ -2,7 +2,7 @@
 use Rattle.std.proofs.Common.{◌≡◌, ℕ, zero, suc, ◌+◌, ◌*◌, ◌<◌, ◌≤◌, refl, arith, inl, inr}
 use Rattle.std.proofs.lemmas.Bool.{cases_lt}
 use Rattle.pvs_terms.specs.Tree.{Text, Tree, Leaf, Var, Name, Bind, Join, Project, If, Own, Formal, Inst, Trees, none, more, size, depth, top_index, free_below, ref_size, trees_size, trees_depth}
-use Rattle.pvs_subst.specs.Replace.{raised, lift, put_var, put_at, put_in}
+use Rattle.pvs_subst.specs.Replace.{raised_index, lift, put_var, put_at, put_in}
 use Rattle.pvs_subst.specs.Instance.{actual, instantiate, instantiate_all}
 use Rattle.pvs_subst.proofs.ReplaceLaws.{raised_below, raised_above, put_var_below, put_var_at, put_var_above}
 
@@ -45,15 +45,15 @@ depth-lift (Project o x) by from = rw (depth-lift x by from) refl
 depth-lift (If x y z) by from = rw (depth-lift x by from, depth-lift y by from, depth-lift z by from) refl
 
 -- and raises no index by more than `by`
-raised-le : (by from n : ℕ) → (n ≤ raised by from n) × (raised by from n ≤ n + by)
-raised-le by from n = elim (cases_lt n from) [
+raised_index-le : (by from n : ℕ) → (n ≤ raised_index by from n) × (raised_index by from n ≤ n + by)
+raised_index-le by from n = elim (cases_lt n from) [
   | inl h ↦ (omega (arith, raised_below by from n h), omega (arith, raised_below by from n h))
   | inr h ↦ (omega (arith, raised_above by from n h), omega (arith, raised_above by from n h))
 ]
 
 pub top_index-lift : (t : Tree) (by from : ℕ) → top_index (lift t by from) ≤ top_index t + by
 top_index-lift (Leaf o) by from = omega arith
-top_index-lift (Var n) by from = (raised-le by from n).1
+top_index-lift (Var n) by from = (raised_index-le by from n).1
 top_index-lift (Name s r) by from = omega arith
 top_index-lift (Bind o x y) by from = omega (arith, top_index-lift x by from, top_index-lift y by (suc from))
 top_index-lift (Join o x y) by from = omega (arith, top_index-lift x by from, top_index-lift y by from)
@@ -62,7 +62,7 @@ top_index-lift (If x y z) by from = omega (arith, top_index-lift x by from, top_
 
 pub free-lift : (t : Tree) (by from : ℕ) → free_below (lift t by from) ≤ free_below t + by
 free-lift (Leaf o) by from = omega arith
-free-lift (Var n) by from = omega (arith, (raised-le by from n).1)
+free-lift (Var n) by from = omega (arith, (raised_index-le by from n).1)
 free-lift (Name s r) by from = omega arith
 free-lift (Bind o x y) by from = omega (arith, free-lift x by from, free-lift y by (suc from))
 free-lift (Join o x y) by from = omega (arith, free-lift x by from, free-lift y by from)

@@ -7,8 +7,8 @@ use Rattle.pvs_subst.specs.declared.context.Assumed.TheVariants as assumed
 
 -- a bound variable with its type, or a formula that is assumed
 pub data Assumption : Type 0 where
-  Bind : Tree → Assumption
-  Hyp : Tree → Assumption
+  Variable : Tree → Assumption
+  Hypothesis : Tree → Assumption
 
 -- the innermost first
 abbrev pub Assumptions : Type 0
@@ -21,8 +21,8 @@ pub record Owed : Type 0 where
 
 -- what these numbers stand for
 abbrev pub assumption_at : Stored → Assumed → Assumption
-assumption_at s (assumed.Bind i) = Bind (tree_at s i)
-assumption_at s (assumed.Hyp i) = Hyp (tree_at s i)
+assumption_at s (assumed.Bind i) = Variable (tree_at s i)
+assumption_at s (assumed.Hyp i) = Hypothesis (tree_at s i)
 
 abbrev pub context_at : Stored → List Assumed → Assumptions
 context_at s [] = []

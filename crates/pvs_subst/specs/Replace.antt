@@ -3,16 +3,16 @@
 use Rattle.std.specs.Prelude.{ℕ, zero, suc, ◌+◌}
 use Rattle.pvs_terms.specs.Tree.{Tree, Leaf, Var, Name, Bind, Join, Project, If}
 
--- the index n, raised by `by` where it is at least `from`
-abbrev pub raised : ℕ → ℕ → ℕ → ℕ
-raised by zero n = n + by
-raised by (suc from) zero = zero
-raised by (suc from) (suc n) = suc (raised by from n)
+-- the index n, raised_index by `by` where it is at least `from`
+abbrev pub raised_index : ℕ → ℕ → ℕ → ℕ
+raised_index by zero n = n + by
+raised_index by (suc from) zero = zero
+raised_index by (suc from) (suc n) = suc (raised_index by from n)
 
--- each free index that is at least `from` is raised by `by`; a reference has no free index
+-- each free index that is at least `from` is raised_index by `by`; a reference has no free index
 abbrev pub lift : Tree → ℕ → ℕ → Tree
 lift (Leaf o) by from = Leaf o
-lift (Var n) by from = Var (raised by from n)
+lift (Var n) by from = Var (raised_index by from n)
 lift (Name s r) by from = Name s r
 lift (Bind o a b) by from = Bind o (lift a by from) (lift b by (suc from))
 lift (Join o a b) by from = Join o (lift a by from) (lift b by from)

@@ -1,7 +1,7 @@
 //! Instances of a theory.
 
 ghost use Rattle.std.specs.Prelude.{◌≡◌, ℕ, ◌+◌, ◌<◌, ◌≤◌, List, [], length, IfOk, Err};
-ghost use Rattle.pvs_terms.specs.Tree.{depth, Fits, AreClosed, ref_actuals, trees_length};
+ghost use Rattle.pvs_terms.specs.Tree.{depth, IsWithinLimits, AreClosed, ref_actuals, trees_length};
 ghost use Rattle.pvs_terms.specs.Tree as tree;
 ghost use Rattle.pvs_terms.specs.Stored.{IsNode, IsRef, IsName, AreNodes, ShapeIn, tree_at, ref_at, trees_at, text_at, shape_tree, Stands, StandsAs, Extends};
 ghost use Rattle.pvs_subst.specs.Instance.{instantiate, instantiate_all, HasActuals, FormalsBelow, AllFormalsBelow, FitTogether};
@@ -16,7 +16,7 @@ use smallvec::SmallVec;
 fn named(store: &mut Store, sort: Sort, r: RefId) -> Result<Id, SubstFault>
     requires { IsRef store.old r }
     ensures ok { IfOk result (Stands store.new (tree.Name sort (ref_at store.old r))) }
-    ensures large { result ≡ Err SubstFault.TooLarge → ¬ Fits (tree.Name sort (ref_at store.old r)) }
+    ensures large { result ≡ Err SubstFault.TooLarge → ¬ IsWithinLimits (tree.Name sort (ref_at store.old r)) }
     ensures kept { Extends store.old store.new }
 {
     let made = store.make(Shape::Name(sort, r).node())?;
@@ -36,7 +36,7 @@ fn instantiate_tree(
     requires given { IsGiven store.old theory actuals.now }
     requires formals { FormalsBelow (length actuals.now) (tree_at store.old id) }
     ensures ok { IfOk result (Stands store.new (instantiate (tree_at store.old id) (text_at store.old theory) (trees_at store.old actuals.now))) }
-    ensures large { result ≡ Err SubstFault.TooLarge → ¬ Fits (instantiate (tree_at store.old id) (text_at store.old theory) (trees_at store.old actuals.now)) }
+    ensures large { result ≡ Err SubstFault.TooLarge → ¬ IsWithinLimits (instantiate (tree_at store.old id) (text_at store.old theory) (trees_at store.old actuals.now)) }
     ensures kept { Extends store.old store.new }
 {
     let node = store.view(id);
@@ -66,7 +66,7 @@ fn instantiate_name(
     requires given { IsGiven store.old theory actuals.now }
     requires formals { FormalsBelow (length actuals.now) (tree.Name sort (ref_at store.old r)) }
     ensures ok { IfOk result (Stands store.new (instantiate (tree.Name sort (ref_at store.old r)) (text_at store.old theory) (trees_at store.old actuals.now))) }
-    ensures large { result ≡ Err SubstFault.TooLarge → ¬ Fits (instantiate (tree.Name sort (ref_at store.old r)) (text_at store.old theory) (trees_at store.old actuals.now)) }
+    ensures large { result ≡ Err SubstFault.TooLarge → ¬ IsWithinLimits (instantiate (tree.Name sort (ref_at store.old r)) (text_at store.old theory) (trees_at store.old actuals.now)) }
     ensures kept { Extends store.old store.new }
 {
     match store.kind(r) {
@@ -131,7 +131,7 @@ fn instantiate_both(
     requires more_formals { FormalsBelow (length actuals.now) (tree_at store.old b) }
     ensures first { IfOk result (λ p. Stands store.new (instantiate (tree_at store.old a) (text_at store.old theory) (trees_at store.old actuals.now)) p.0) }
     ensures second { IfOk result (λ p. Stands store.new (instantiate (tree_at store.old b) (text_at store.old theory) (trees_at store.old actuals.now)) p.1) }
-    ensures large { result ≡ Err SubstFault.TooLarge → Fits (instantiate (tree_at store.old a) (text_at store.old theory) (trees_at store.old actuals.now)) → ¬ Fits (instantiate (tree_at store.old b) (text_at store.old theory) (trees_at store.old actuals.now)) }
+    ensures large { result ≡ Err SubstFault.TooLarge → IsWithinLimits (instantiate (tree_at store.old a) (text_at store.old theory) (trees_at store.old actuals.now)) → ¬ IsWithinLimits (instantiate (tree_at store.old b) (text_at store.old theory) (trees_at store.old actuals.now)) }
     ensures kept { Extends store.old store.new }
 {
     let first = instantiate_tree(store, a, theory, actuals)?;
@@ -152,7 +152,7 @@ fn instantiate_parts(
     requires given { IsGiven store.old theory actuals.now }
     requires formals { FormalsBelow (length actuals.now) (shape_tree store.old shape) }
     ensures ok { IfOk result (StandsAs store.new (instantiate (shape_tree store.old shape) (text_at store.old theory) (trees_at store.old actuals.now))) }
-    ensures large { result ≡ Err SubstFault.TooLarge → ¬ Fits (instantiate (shape_tree store.old shape) (text_at store.old theory) (trees_at store.old actuals.now)) }
+    ensures large { result ≡ Err SubstFault.TooLarge → ¬ IsWithinLimits (instantiate (shape_tree store.old shape) (text_at store.old theory) (trees_at store.old actuals.now)) }
     ensures kept { Extends store.old store.new }
 {
     match shape {
@@ -195,7 +195,7 @@ pub fn instantiate_node(
     requires closed { AreClosed (trees_at store.old actuals.now) }
     requires formals { HasActuals (trees_at store.old actuals.now) (tree_at store.old id) }
     ensures ok { IfOk result (Stands store.new (instantiate (tree_at store.old id) (text_at store.old theory) (trees_at store.old actuals.now))) }
-    ensures large { result ≡ Err SubstFault.TooLarge → ¬ Fits (instantiate (tree_at store.old id) (text_at store.old theory) (trees_at store.old actuals.now)) }
+    ensures large { result ≡ Err SubstFault.TooLarge → ¬ IsWithinLimits (instantiate (tree_at store.old id) (text_at store.old theory) (trees_at store.old actuals.now)) }
     ensures kept { Extends store.old store.new }
 {
     instantiate_tree(store, id, theory, actuals)

@@ -1,9 +1,9 @@
 //! Lifting.
 
 ghost use Rattle.std.specs.Prelude.{◌≡◌, ℕ, ◌+◌, ◌<◌, ◌^◌, ◌≤◌, length, IfOk, IfSome, IfNone, Err};
-ghost use Rattle.pvs_terms.specs.Tree.{depth, Fits};
+ghost use Rattle.pvs_terms.specs.Tree.{depth, IsWithinLimits};
 ghost use Rattle.pvs_terms.specs.Stored.{IsNode, tree_at, shape_tree, ShapeIn, Stands, StandsAs, Extends};
-ghost use Rattle.pvs_subst.specs.Replace.{lift, raised};
+ghost use Rattle.pvs_subst.specs.Replace.{lift, raised_index};
 
 use crate::fault::SubstFault;
 use pvs_base::MAX_INDEX;
@@ -12,8 +12,8 @@ use pvs_terms::{Id, Shape, Store};
 /// The index after lifting, while it is within the limit.
 #[tactic(auto, using(crate::proofs::ReplaceLaws::raised_below, crate::proofs::ReplaceLaws::raised_above))]
 fn raise(n: u32, by: u32, from: u64) -> Option<u32>
-    ensures some { IfSome result (λ m. (m ≡ raised by from n) × (m ≤ 1000000)) }
-    ensures none { IfNone result (1000000 < raised by from n) }
+    ensures some { IfSome result (λ m. (m ≡ raised_index by from n) × (m ≤ 1000000)) }
+    ensures none { IfNone result (1000000 < raised_index by from n) }
 {
     if u64::from(n) < from {
         if n > MAX_INDEX { None } else { Some(n) }
@@ -31,7 +31,7 @@ fn lift_from(store: &mut Store, id: Id, by: u32, from: u64) -> Result<Id, SubstF
     requires node { IsNode store.old id }
     requires room { from + depth (tree_at store.old id) < 2 ^ 34 }
     ensures ok { IfOk result (Stands store.new (lift (tree_at store.old id) by from)) }
-    ensures large { result ≡ Err SubstFault.TooLarge → ¬ Fits (lift (tree_at store.old id) by from) }
+    ensures large { result ≡ Err SubstFault.TooLarge → ¬ IsWithinLimits (lift (tree_at store.old id) by from) }
     ensures kept { Extends store.old store.new }
 {
     let node = store.view(id);
@@ -50,7 +50,7 @@ fn lift_parts(store: &mut Store, shape: Shape, by: u32, from: u64) -> Result<Sha
     requires parts { ShapeIn store.old shape }
     requires room { from + depth (shape_tree store.old shape) < 2 ^ 34 }
     ensures ok { IfOk result (StandsAs store.new (lift (shape_tree store.old shape) by from)) }
-    ensures large { result ≡ Err SubstFault.TooLarge → ¬ Fits (lift (shape_tree store.old shape) by from) }
+    ensures large { result ≡ Err SubstFault.TooLarge → ¬ IsWithinLimits (lift (shape_tree store.old shape) by from) }
     ensures kept { Extends store.old store.new }
 {
     match shape {
@@ -87,7 +87,7 @@ fn lift_parts(store: &mut Store, shape: Shape, by: u32, from: u64) -> Result<Sha
 pub fn lift(store: &mut Store, id: Id, by: u32, from: u32) -> Result<Id, SubstFault>
     requires { IsNode store.old id }
     ensures ok { IfOk result (Stands store.new (lift (tree_at store.old id) by from)) }
-    ensures large { result ≡ Err SubstFault.TooLarge → ¬ Fits (lift (tree_at store.old id) by from) }
+    ensures large { result ≡ Err SubstFault.TooLarge → ¬ IsWithinLimits (lift (tree_at store.old id) by from) }
     ensures kept { Extends store.old store.new }
 {
     let _node = store.view(id);

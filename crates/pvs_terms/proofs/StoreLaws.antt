@@ -2,7 +2,7 @@
 use Rattle.std.proofs.Common.{◌≡◌, ℕ, zero, suc, ◌<◌, ◌≤◌, List, [], ◌∷◌, ◌++◌, length, map, refl, ap, ap₂, sym, ◌∙◌, subst, arith}
 use Rattle.std.proofs.lemmas.List.{length-map}
 use Rattle.std.specs.Prelude.{slice_index_or}
-use Rattle.pvs_terms.specs.Tree.{Text, Ref, Fits, Const, AreClosed, ref_actuals}
+use Rattle.pvs_terms.specs.Tree.{Text, Ref, IsWithinLimits, Const, AreClosed, ref_actuals}
 use Rattle.pvs_terms.specs.declared.node.Node.{Node}
 use Rattle.pvs_terms.specs.declared.node.RefKind.{RefKind}
 use Rattle.pvs_terms.specs.declared.node.RefKind.TheVariants as kind
@@ -36,7 +36,7 @@ right-extends s t i e x h le r =
       tree = same ∙ r.tree ∙ sym (node_tree-extends s t e.node x parts);
       parts = HasParts-mono i i (length s.refs) (length t.refs) (shape_of e.node) (omega arith) le r.parts;
       measure = r.measure ∙ ap measure_of (sym same);
-      fits = subst Fits (sym same) r.fits;
+      fits = subst IsWithinLimits (sym same) r.fits;
     }
 
 KindIn-extends : (s t : Stored) (k : RefKind) → Extends s t → KindIn s k → KindIn t k
@@ -52,11 +52,11 @@ right_ref-extends s t r e x h y =
       kind = KindIn-extends s t e.kind x y.kind;
       may_have = y.may_have;
       closed = subst (λ q. AreClosed (ref_actuals q)) same y.closed;
-      fits = subst (λ q. Fits (Const q)) same y.fits;
+      fits = subst (λ q. IsWithinLimits (Const q)) same y.fits;
     }
 
 -- a node on a reference is within the limits, so the reference's measure is
-pub small_ref : {m : Measure} (r : Ref) → m ≡ ref_measure r → Fits (Const r) → IsSmall m
+pub small_ref : {m : Measure} (r : Ref) → m ≡ ref_measure r → IsWithinLimits (Const r) → IsSmall m
 small_ref r e f = rw e (record { depth = omega (arith, f.deep); size = omega (arith, f.large); top = f.index })
 
 module _ (ts : List Text) (es : List Entry) (rs : List RefEntry) (e : Entry) (sound : IsSound ts es rs) (parts : PartsIn (stored ts es rs) e.node) (measured : e.measure ≡ measure_of (node_tree (stored ts es rs) e.node)) (small : IsSmall e.measure) where
@@ -75,7 +75,7 @@ module _ (ts : List Text) (es : List Entry) (rs : List RefEntry) (e : Entry) (so
   tree_new : tree_at (stored ts (es ++ e ∷ []) rs) (length es) ≡ node_tree (stored ts es rs) e.node
   tree_new = ap (λ s. tree_at s (length es)) stored-push ∙ ap (tree_at (pushed (stored ts es rs) e.node)) (sym length_nodes) ∙ tree_at-push_new (stored ts es rs) e.node
 
-  fits_new : Fits (node_tree (stored ts es rs) e.node)
+  fits_new : IsWithinLimits (node_tree (stored ts es rs) e.node)
   fits_new = let m : IsSmall (measure_of (node_tree (stored ts es rs) e.node)) = rw measured at small in record { deep = m.depth; large = m.size; index = m.top }
 
   right_new : IsRight (stored ts (es ++ e ∷ []) rs) (length es) e
@@ -83,7 +83,7 @@ module _ (ts : List Text) (es : List Entry) (rs : List RefEntry) (e : Entry) (so
     tree = tree_new ∙ sym (node_tree-extends (stored ts es rs) (stored ts (es ++ e ∷ []) rs) e.node extends parts);
     parts = HasParts-mono (length (stored ts es rs).nodes) (length es) (length (stored ts es rs).refs) (length (stored ts es rs).refs) (shape_of e.node) (omega (arith, length_nodes)) (omega arith) parts;
     measure = measured ∙ ap measure_of (sym tree_new);
-    fits = subst Fits (sym tree_new) fits_new;
+    fits = subst IsWithinLimits (sym tree_new) fits_new;
   }
 
   nodes_push : (i : ℕ) (d : Entry) → i < length (es ++ e ∷ []) → d ≡ slice_index_or (es ++ e ∷ []) i d → IsRight (stored ts (es ++ e ∷ []) rs) i d
@@ -182,7 +182,7 @@ module _ (ts : List Text) (es : List Entry) (rs : List RefEntry) (e : RefEntry) 
     kind = KindIn-extends (stored ts es rs) (stored ts es (rs ++ e ∷ [])) e.kind extends_ref new.kind;
     may_have = new.may_have;
     closed = subst (λ q. AreClosed (ref_actuals q)) (sym ref_new) new.closed;
-    fits = subst (λ q. Fits (Const q)) (sym ref_new) new.fits;
+    fits = subst (λ q. IsWithinLimits (Const q)) (sym ref_new) new.fits;
   }
 
   right_refs : (r : ℕ) (d : RefEntry) → r < length (rs ++ e ∷ []) → d ≡ slice_index_or (rs ++ e ∷ []) r d → IsRightRef (stored ts es (rs ++ e ∷ [])) r d
@@ -211,7 +211,7 @@ pub record RefSeen (s : Stored) (r : ℕ) (k : RefKind) (acts : List ℕ) (m : M
   pub kind : KindIn s k
   pub closed : AreClosed (ref_actuals (ref_at s r))
   pub measure : m ≡ ref_measure (ref_at s r)
-  pub fits : Fits (Const (ref_at s r))
+  pub fits : IsWithinLimits (Const (ref_at s r))
 
 actuals_of : (s : Stored) (k : RefKind) (acts : List ℕ) → MayHave k acts → trees_at s acts ≡ ref_actuals (given_ref s k acts)
 actuals_of s (kind.Own n) acts h = ap (trees_at s) h

@@ -3,7 +3,7 @@ use Rattle.std.proofs.Common.{◌≡◌, ℕ, refl, ap, sym, subst, ◌⊎◌, i
 use Rattle.std.proofs.lemmas.Bool.{eqb-true}
 use Rattle.std.proofs.lemmas.Slice.Eq.{bytes_eq-Decides}
 use Rattle.std.specs.Prelude.{bytes_eq}
-use Rattle.pvs_terms.specs.Tree.{Tree, Leaf, Var, Name, Bind, Join, Project, If, Ref, Own, Formal, Inst, Trees, none, more, plain_eq, sort_eq, binder_eq, joint_eq, part_eq, tree_eq, ref_eq, trees_eq}
+use Rattle.pvs_terms.specs.Tree.{Tree, Leaf, Var, Name, Bind, Join, Project, If, Ref, Own, Formal, Inst, Trees, none, more, plain_eq, sort_eq, binder_eq, joint_eq, projection_eq, tree_eq, ref_eq, trees_eq}
 use Rattle.pvs_terms.specs.declared.shape.Plain.{Plain}
 use Rattle.pvs_terms.specs.declared.shape.Plain.TheVariants.{BoolType, Yes, No}
 use Rattle.pvs_terms.specs.declared.shape.Sort.{Sort}
@@ -12,8 +12,8 @@ use Rattle.pvs_terms.specs.declared.shape.Binder.{Binder}
 use Rattle.pvs_terms.specs.declared.shape.Binder.TheVariants.{Subtype, Function, Product, Lambda}
 use Rattle.pvs_terms.specs.declared.shape.Joint.{Joint}
 use Rattle.pvs_terms.specs.declared.shape.Joint.TheVariants.{Apply, Tuple, Equal}
-use Rattle.pvs_terms.specs.declared.shape.Part.{Part}
-use Rattle.pvs_terms.specs.declared.shape.Part.TheVariants.{First, Second}
+use Rattle.pvs_terms.specs.declared.shape.Projection.{Projection}
+use Rattle.pvs_terms.specs.declared.shape.Projection.TheVariants.{First, Second}
 
 pub both : (a b : Bool) → (a && b) ≡ true → (a ≡ true) × (b ≡ true)
 both true b h = (refl, h)
@@ -46,10 +46,10 @@ joint_eq-true (Tuple j) (Tuple k) h = ap Tuple (eqb-true j k h)
 joint_eq-true Equal Equal h = refl
 joint_eq-true _ _ h = cc
 
-part_eq-true : (a b : Part) → part_eq a b ≡ true → a ≡ b
-part_eq-true (First j) (First k) h = ap First (eqb-true j k h)
-part_eq-true (Second j) (Second k) h = ap Second (eqb-true j k h)
-part_eq-true _ _ h = cc
+projection_eq-true : (a b : Projection) → projection_eq a b ≡ true → a ≡ b
+projection_eq-true (First j) (First k) h = ap First (eqb-true j k h)
+projection_eq-true (Second j) (Second k) h = ap Second (eqb-true j k h)
+projection_eq-true _ _ h = cc
 
 mutual
   pub tree_eq-true : (t u : Tree) → tree_eq t u ≡ true → t ≡ u
@@ -72,8 +72,8 @@ mutual
       let f = tree_eq-true a c y.0 in
       let g = tree_eq-true b d y.1 in cc
   tree_eq-true (Project o a) (Project p c) h =
-      let x = both (part_eq o p) (tree_eq a c) h in
-      let e = part_eq-true o p x.0 in
+      let x = both (projection_eq o p) (tree_eq a c) h in
+      let e = projection_eq-true o p x.0 in
       let f = tree_eq-true a c x.1 in cc
   tree_eq-true (If a b c) (If u v w) h =
       let x = both (tree_eq a u) (tree_eq b v && tree_eq c w) h in
@@ -116,9 +116,9 @@ joint_eq-same Apply = refl
 joint_eq-same (Tuple k) = eqb-same k
 joint_eq-same Equal = refl
 
-part_eq-same : (a : Part) → part_eq a a ≡ true
-part_eq-same (First k) = eqb-same k
-part_eq-same (Second k) = eqb-same k
+projection_eq-same : (a : Projection) → projection_eq a a ≡ true
+projection_eq-same (First k) = eqb-same k
+projection_eq-same (Second k) = eqb-same k
 
 plain_eq-same : (a : Plain) → plain_eq a a ≡ true
 plain_eq-same BoolType = refl
@@ -136,7 +136,7 @@ mutual
   tree_eq-same (Name s r) = all_true (sort_eq-same s) (ref_eq-same r)
   tree_eq-same (Bind o a b) = all_true (binder_eq-same o) (all_true (tree_eq-same a) (tree_eq-same b))
   tree_eq-same (Join o a b) = all_true (joint_eq-same o) (all_true (tree_eq-same a) (tree_eq-same b))
-  tree_eq-same (Project o a) = all_true (part_eq-same o) (tree_eq-same a)
+  tree_eq-same (Project o a) = all_true (projection_eq-same o) (tree_eq-same a)
   tree_eq-same (If a b c) = all_true (tree_eq-same a) (all_true (tree_eq-same b) (tree_eq-same c))
 
   pub ref_eq-same : (r : Ref) → ref_eq r r ≡ true

@@ -3,7 +3,7 @@ use Rattle.pvs_terms.specs.declared.shape.Plain.TheVariants.{BoolType, Yes, No}
 use Rattle.pvs_terms.specs.declared.shape.Sort.TheVariants.{OfType, OfTerm}
 use Rattle.pvs_terms.specs.declared.shape.Binder.TheVariants.{Subtype, Function, Product, Lambda}
 use Rattle.pvs_terms.specs.declared.shape.Joint.TheVariants.{Apply, Tuple, Equal}
-use Rattle.pvs_terms.specs.declared.shape.Part.TheVariants.{First, Second}
+use Rattle.pvs_terms.specs.declared.shape.Projection.TheVariants.{First, Second}
 use Rattle.pvs_terms.specs.declared.node.Node.{Node}
 use Rattle.pvs_terms.specs.declared.node.Node.TheVariants as node
 use Rattle.pvs_terms.specs.declared.shape.Shape.{Shape}

@@ -1,6 +1,6 @@
 -- What is seen of a store, and what holds of it.
 use Rattle.std.specs.Prelude.{◌≡◌, ℕ, ◌<◌, List, [], ◌∷◌, map, length, slice_index_or}
-use Rattle.pvs_terms.specs.Tree.{Text, Fits, Const, AreClosed, ref_actuals}
+use Rattle.pvs_terms.specs.Tree.{Text, IsWithinLimits, Const, AreClosed, ref_actuals}
 use Rattle.pvs_terms.specs.declared.store.Entry.{Entry}
 use Rattle.pvs_terms.specs.declared.store.RefEntry.{RefEntry}
 use Rattle.pvs_terms.specs.Stored.{Stored, Reference, theory_in, tree_at, ref_at, HasParts, KindIn, MayHave, IsRef, node_tree, given_ref, AllBelow}
@@ -23,7 +23,7 @@ pub record IsRight (s : Stored) (i : ℕ) (e : Entry) : Type 0 where
   pub tree : tree_at s i ≡ node_tree s e.node
   pub parts : HasParts i (length s.refs) (shape_of e.node)
   pub measure : e.measure ≡ measure_of (tree_at s i)
-  pub fits : Fits (tree_at s i)
+  pub fits : IsWithinLimits (tree_at s i)
 
 -- the actuals of references are nodes
 abbrev pub ActualsBelow : ℕ → List Reference → Type 0
@@ -50,7 +50,7 @@ pub record IsRightRef (s : Stored) (r : ℕ) (e : RefEntry) : Type 0 where
   pub kind : KindIn s e.kind
   pub may_have : MayHave e.kind e.actuals.items
   pub closed : AreClosed (ref_actuals (ref_at s r))
-  pub fits : Fits (Const (ref_at s r))
+  pub fits : IsWithinLimits (Const (ref_at s r))
 
 -- what holds of the lists of a store; equal references have equal numbers
 pub record IsSound (ts : List Text) (es : List Entry) (rs : List RefEntry) : Type 0 where
@@ -67,5 +67,5 @@ pub record IsNew (s : Stored) (k : RefKind) (acts : List ℕ) (m : Measure) : Ty
   pub actuals : AllBelow (length s.nodes) acts
   pub closed : AreClosed (ref_actuals (given_ref s k acts))
   pub measure : m ≡ ref_measure (given_ref s k acts)
-  pub fits : Fits (Const (given_ref s k acts))
+  pub fits : IsWithinLimits (Const (given_ref s k acts))
   pub fresh : (r : ℕ) → IsRef s r → ref_at s r ≡ given_ref s k acts → ⊥

@@ -2,7 +2,7 @@
 -- of `tree_at`, `ref_at` and `text_at` alone, and never of its lists.
 use Rattle.std.specs.Prelude.{◌≡◌, ℕ, ◌<◌, List, [], ◌∷◌, ◌++◌, length, slice_index_or}
 use Rattle.pvs_terms.specs.Tree as tree
-use Rattle.pvs_terms.specs.Tree.{Text, Tree, Ref, Trees, Fits, AreClosed, ref_actuals}
+use Rattle.pvs_terms.specs.Tree.{Text, Tree, Ref, Trees, IsWithinLimits, AreClosed, ref_actuals}
 use Rattle.pvs_terms.specs.declared.node.Node.{Node}
 use Rattle.pvs_terms.specs.declared.shape.Shape.{Shape}
 use Rattle.pvs_terms.specs.declared.shape.Shape.TheVariants as shape
@@ -165,7 +165,7 @@ pub record Extends (old new : Stored) : Type 0 where
 pub record Stands (s : Stored) (t : Tree) (i : ℕ) : Type 0 where
   pub node : IsNode s i
   pub tree : tree_at s i ≡ t
-  pub fits : Fits t
+  pub fits : IsWithinLimits t
 
 -- the shape has its parts in the store and is that of the tree
 pub record StandsAs (s : Stored) (t : Tree) (x : Shape) : Type 0 where
@@ -176,7 +176,7 @@ pub record StandsAs (s : Stored) (t : Tree) (x : Shape) : Type 0 where
 pub record StandsRef (s : Stored) (t : Ref) (r : ℕ) : Type 0 where
   pub ref : IsRef s r
   pub is : ref_at s r ≡ t
-  pub fits : Fits (tree.Const t)
+  pub fits : IsWithinLimits (tree.Const t)
 
 -- the number stands for the text
 pub record StandsName (s : Stored) (t : Text) (n : ℕ) : Type 0 where

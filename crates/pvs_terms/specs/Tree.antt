@@ -9,8 +9,8 @@ use Rattle.pvs_terms.specs.declared.shape.Binder.{Binder}
 use Rattle.pvs_terms.specs.declared.shape.Binder.TheVariants.{Subtype, Function, Product, Lambda}
 use Rattle.pvs_terms.specs.declared.shape.Joint.{Joint}
 use Rattle.pvs_terms.specs.declared.shape.Joint.TheVariants.{Apply, Tuple, Equal}
-use Rattle.pvs_terms.specs.declared.shape.Part.{Part}
-use Rattle.pvs_terms.specs.declared.shape.Part.TheVariants.{First, Second}
+use Rattle.pvs_terms.specs.declared.shape.Projection.{Projection}
+use Rattle.pvs_terms.specs.declared.shape.Projection.TheVariants.{First, Second}
 
 -- the bytes of a name
 abbrev pub Text : Type 0
@@ -24,7 +24,7 @@ mutual
     Name : Sort → Ref → Tree
     Bind : Binder → Tree → Tree → Tree
     Join : Joint → Tree → Tree → Tree
-    Project : Part → Tree → Tree
+    Project : Projection → Tree → Tree
     If : Tree → Tree → Tree → Tree
 
   -- an entry of the theory itself, a formal of it, or an entry of an instance of a named theory
@@ -106,10 +106,10 @@ joint_eq (Tuple j) (Tuple k) = nat_eq j k
 joint_eq Equal Equal = true
 joint_eq _ _ = false
 
-abbrev pub part_eq : Part → Part → Bool
-part_eq (First j) (First k) = nat_eq j k
-part_eq (Second j) (Second k) = nat_eq j k
-part_eq _ _ = false
+abbrev pub projection_eq : Projection → Projection → Bool
+projection_eq (First j) (First k) = nat_eq j k
+projection_eq (Second j) (Second k) = nat_eq j k
+projection_eq _ _ = false
 
 -- the test for equal trees
 abbrev mutual
@@ -119,7 +119,7 @@ abbrev mutual
   tree_eq (Name s r) (Name t q) = sort_eq s t && ref_eq r q
   tree_eq (Bind o a b) (Bind p c d) = binder_eq o p && (tree_eq a c && tree_eq b d)
   tree_eq (Join o a b) (Join p c d) = joint_eq o p && (tree_eq a c && tree_eq b d)
-  tree_eq (Project o a) (Project p c) = part_eq o p && tree_eq a c
+  tree_eq (Project o a) (Project p c) = projection_eq o p && tree_eq a c
   tree_eq (If a b c) (If x y z) = tree_eq a x && (tree_eq b y && tree_eq c z)
   tree_eq _ _ = false
 
@@ -249,7 +249,7 @@ ref_actuals (Formal n) = none
 ref_actuals (Inst a n xs) = xs
 
 -- a tree within the limits of depth, size and index
-pub record Fits (t : Tree) : Type 0 where
+pub record IsWithinLimits (t : Tree) : Type 0 where
   pub deep : depth t ≤ 1000
   pub large : size t ≤ 1000000
   pub index : top_index t ≤ 1000000

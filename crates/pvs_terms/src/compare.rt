@@ -7,7 +7,7 @@ use crate::shape::Shape;
 use crate::store::Store;
 
 impl Store {
-    ghost use Rattle.pvs_terms.specs.Tree.{tree_eq, ref_eq, trees_eq, Fits, Const};
+    ghost use Rattle.pvs_terms.specs.Tree.{tree_eq, ref_eq, trees_eq, IsWithinLimits, Const};
     ghost use Rattle.pvs_terms.specs.Stored.{tree_at, ref_at, trees_at, given_ref, IsNode, IsRef, AreNodes, AllBelow, KindIn};
 
     /// Whether the references are equal. Equal references have equal numbers.
@@ -86,7 +86,7 @@ impl Store {
         requires named { KindIn self.now kind.now }
         requires actuals { AllBelow (length self.now.nodes) actuals.now }
         ensures value { result ≡ ref_eq (ref_at self.now r) (given_ref self.now kind.now actuals.now) }
-        ensures fits { Fits (Const (ref_at self.now r)) }
+        ensures fits { IsWithinLimits (Const (ref_at self.now r)) }
     {
         match self.kind(r) {
             RefKind::Own(m) => match *kind {

@@ -12,7 +12,7 @@ mod store;
 
 pub use fault::MakeFault;
 pub use node::{Id, Name, Node, RefId, RefKind};
-pub use shape::{Binder, Joint, Part, Plain, Shape, Sort};
+pub use shape::{Binder, Joint, Plain, Projection, Shape, Sort};
 pub use store::Store;
 
 #[cfg(test)]

@@ -10,7 +10,7 @@ use smallvec::SmallVec;
 
 impl Store {
     ghost use Rattle.std.specs.Prelude.{◌≢◌, IfSome, IfNone, Err};
-    ghost use Rattle.pvs_terms.specs.Tree.{ref_actuals, AreClosed, Fits, Const};
+    ghost use Rattle.pvs_terms.specs.Tree.{ref_actuals, AreClosed, IsWithinLimits, Const};
     ghost use Rattle.pvs_terms.specs.Stored.{tree_at, ref_at, trees_at, IsNode, IsRef, AreNodes, AllBelow, KindIn, MayHave};
     ghost use Rattle.pvs_terms.specs.Stored.{ref_of, given_ref, StandsRef, Extends};
     ghost use Rattle.pvs_terms.specs.Measures.{ref_measure, trees_measure, IsRoomy};
@@ -23,7 +23,7 @@ impl Store {
         ensures named { KindIn self.now result }
 
         // A node on the reference is within the limits.
-        ensures fits { Fits (Const (ref_at self.now r)) }
+        ensures fits { IsWithinLimits (Const (ref_at self.now r)) }
     {
         let entry = &self.refs[r.number() as usize];
         entry.kind
@@ -37,7 +37,7 @@ impl Store {
 
         // None has a free index, and a node on the reference is within the limits.
         ensures closed { AreClosed (ref_actuals (ref_at self.now r)) }
-        ensures fits { Fits (Const (ref_at self.now r)) }
+        ensures fits { IsWithinLimits (Const (ref_at self.now r)) }
     {
         let entry = &self.refs[r.number() as usize];
         entry.actuals.as_slice()
@@ -80,8 +80,8 @@ impl Store {
     fn measure_given(&self, kind: &RefKind, actuals: &[Id]) -> Option<Measure>
         requires { AllBelow (length self.now.nodes) actuals.now }
         ensures some { IfSome result (λ m. m ≡ ref_measure (given_ref self.now kind.now actuals.now)) }
-        ensures fits { IfSome result (λ _. Fits (Const (given_ref self.now kind.now actuals.now))) }
-        ensures none { IfNone result (¬ Fits (Const (given_ref self.now kind.now actuals.now))) }
+        ensures fits { IfSome result (λ _. IsWithinLimits (Const (given_ref self.now kind.now actuals.now))) }
+        ensures none { IfNone result (¬ IsWithinLimits (Const (given_ref self.now kind.now actuals.now))) }
     {
         match *kind {
             RefKind::Own(_) => Some(Measure::none().of_ref(true)),
@@ -105,7 +105,7 @@ impl Store {
         ensures only { IfOk result (λ r. (q : ℕ) → IsRef self.new q → ref_at self.new q ≡ given_ref self.old kind actuals.now → q ≡ r) }
 
         // A node on the reference would pass a limit.
-        ensures large { result ≡ Err MakeFault.TooLarge → ¬ Fits (Const (given_ref self.old kind actuals.now)) }
+        ensures large { result ≡ Err MakeFault.TooLarge → ¬ IsWithinLimits (Const (given_ref self.old kind actuals.now)) }
         ensures kept { Extends self.old self.new }
         ensures err { OnErr result (self.new ≡ self.old) }
     {

@@ -42,7 +42,7 @@ pub enum Joint {
 /// Which part of a tuple a projection takes: the first component, or the others. The number is
 /// that of the tuple's components.
 #[derive(Clone, Copy, Debug, PartialEq, Eq, Hash)]
-pub enum Part {
+pub enum Projection {
     First(u32),
     Second(u32),
 }
@@ -55,7 +55,7 @@ pub enum Shape {
     Name(Sort, RefId),
     Bind(Binder, Id, Id),
     Join(Joint, Id, Id),
-    Project(Part, Id),
+    Project(Projection, Id),
     Choose(Id, Id, Id),
 }
 
@@ -79,8 +79,8 @@ impl Node {
             Node::Lam(a, b) => Shape::Bind(Binder::Lambda, a, b),
             Node::App(f, a) => Shape::Join(Joint::Apply, f, a),
             Node::Tup(k, a, b) => Shape::Join(Joint::Tuple(k), a, b),
-            Node::Fst(k, t) => Shape::Project(Part::First(k), t),
-            Node::Snd(k, t) => Shape::Project(Part::Second(k), t),
+            Node::Fst(k, t) => Shape::Project(Projection::First(k), t),
+            Node::Snd(k, t) => Shape::Project(Projection::Second(k), t),
             Node::If(c, a, b) => Shape::Choose(c, a, b),
             Node::Eq(a, b) => Shape::Join(Joint::Equal, a, b),
         }
@@ -117,8 +117,8 @@ impl Shape {
                 Joint::Equal => Node::Eq(a, b),
             },
             Shape::Project(part, a) => match part {
-                Part::First(k) => Node::Fst(k, a),
-                Part::Second(k) => Node::Snd(k, a),
+                Projection::First(k) => Node::Fst(k, a),
+                Projection::Second(k) => Node::Snd(k, a),
             },
             Shape::Choose(a, b, c) => Node::If(a, b, c),
         }

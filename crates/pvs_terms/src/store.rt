@@ -50,7 +50,7 @@ impl Model for Store {
 
 impl Store {
     ghost use Rattle.std.specs.Prelude.{◌↔◌, ◌≢◌, IsTrue, IfSome, IfNone, Err, bytes_eq};
-    ghost use Rattle.pvs_terms.specs.Tree.{depth, size, free_below, is_local, tree_eq, ref_eq, trees_eq, ref_actuals, AreClosed, Fits, Const, Text};
+    ghost use Rattle.pvs_terms.specs.Tree.{depth, size, free_below, is_local, tree_eq, ref_eq, trees_eq, ref_actuals, AreClosed, IsWithinLimits, Const, Text};
     ghost use Rattle.pvs_terms.specs.Stored.{tree_at, ref_at, text_at, trees_at, IsNode, IsRef, IsName, AreNodes, AllBelow, KindIn, MayHave, HasParts, PartsIn};
     ghost use Rattle.pvs_terms.specs.Stored.{node_tree, ref_of, given_ref, Stands, StandsRef, StandsName, Extends};
     ghost use Rattle.pvs_terms.specs.Measures.{measure_of, ref_measure, trees_measure, above, beside, under, IsSmall};
@@ -113,7 +113,7 @@ impl Store {
 
         // Its parts are older, and its tree is within the limits.
         ensures parts { HasParts id (length self.now.refs) (shape_of result) }
-        ensures fits { Fits (tree_at self.now id) }
+        ensures fits { IsWithinLimits (tree_at self.now id) }
     {
         self.entries[id.number() as usize].node
     }
@@ -217,7 +217,7 @@ impl Store {
     pub fn make(&mut self, node: Node) -> Result<Id, MakeFault>
         requires { PartsIn self.old node }
         ensures ok { IfOk result (Stands self.new (node_tree self.old node)) }
-        ensures large { result ≡ Err MakeFault.TooLarge → ¬ Fits (node_tree self.old node) }
+        ensures large { result ≡ Err MakeFault.TooLarge → ¬ IsWithinLimits (node_tree self.old node) }
         ensures kept { Extends self.old self.new }
         ensures err { OnErr result (self.new ≡ self.old) }
     {

@@ -2,7 +2,7 @@ use Rattle.std.proofs.Common.{◌∙◌, ◌++◌, ◌∷◌, [], refl, sym, ap,
 use Rattle.std.proofs.lemmas.List.{map-append}
 use Rattle.std.proofs.lemmas.Result.{on_ok_weaker}
 use Rattle.pvs_cli.specs.declared.report.Gone as program
-use Rattle.pvs_cli.specs.Names.{spelling}
+use Rattle.pvs_syntax.specs.Words.{spelling}
 use Rattle.pvs_cli.specs.Lines.{RefusedLine, TheoryLine, TheoryOf}
 use Rattle.pvs_cli.specs.Printed.{line_shown, lines_shown}
 use Rattle.pvs_cli.specs.Shown.{entries_shown, part_shown}

@@ -1,6 +1,6 @@
 use Rattle.std.proofs.Common.{◌≡◌, ◌∙◌, Bool, true, false, not, refl, ap, sym}
 use Rattle.std.proofs.lemmas.Result.{IfOk-weaker}
-use Rattle.pvs_cli.specs.Names.{spelling}
+use Rattle.pvs_syntax.specs.Words.{spelling}
 use Rattle.pvs_cli.specs.Theories.{has_name, part_of, theory_names, theory_part, told_entries}
 use Rattle.pvs_cli.proofs.theories.next_part.Goals as goal
 

@@ -1,5 +1,5 @@
 use Rattle.std.proofs.Common.{◌≡◌, ◌∙◌, sym, ap, subst, rules, length}
-use Rattle.pvs_terms.specs.Tree.{Fits, AreClosed, Name, Formal, ref_actuals}
+use Rattle.pvs_terms.specs.Tree.{IsWithinLimits, AreClosed, Name, Formal, ref_actuals}
 use Rattle.pvs_terms.specs.Stored.{tree_at, trees_at, text_at, ref_at, ShapeIn, shape_tree, Stands, AreNodes, IsNode}
 use Rattle.pvs_terms.proofs.StoredLaws.{extends_trans, trees_at-extends, nodes_extend}
 use Rattle.pvs_subst.specs.Instance.{FormalsBelow, AllFormalsBelow, RefFormalsBelow, FitTogether}
@@ -28,7 +28,7 @@ instantiate_both-returns-clause-second t c =
 
 pub instantiate_both-returns-in_err-second-clause-large : goal.instantiate_both-returns-in_err-second-clause-large
 instantiate_both-returns-in_err-second-clause-large t c e f g =
-    c.in_err-second.ensures.large (search rules) (subst Fits (sym (inst_same c.args.b c.in_ok-first.ensures.kept c.requires.given c.requires.second)) g)
+    c.in_err-second.ensures.large (search rules) (subst IsWithinLimits (sym (inst_same c.args.b c.in_ok-first.ensures.kept c.requires.given c.requires.second)) g)
 
 pub instantiate_parts-instantiate_both-requires-in-Choose : goal.instantiate_parts-instantiate_both-requires-in-Choose
 instantiate_parts-instantiate_both-requires-in-Choose t c =
@@ -54,10 +54,10 @@ pub instantiate_parts-returns-in_err-b-in-Choose-clause-large : goal.instantiate
 instantiate_parts-returns-in_err-b-in-Choose-clause-large t c e f =
     let kept = c.in_ok-a-in-Choose.ensures.kept in
     let parts = subst (ShapeIn c.args.store.now) c.in-Choose.is c.requires.parts in
-    let whole = subst (λ x. Fits (inst_at c.args.store.now c.args.theory c.args.actuals.now (shape_tree c.args.store.now x))) c.in-Choose.is f in
+    let whole = subst (λ x. IsWithinLimits (inst_at c.args.store.now c.args.theory c.args.actuals.now (shape_tree c.args.store.now x))) c.in-Choose.is f in
     c.in_err-b-in-Choose.ensures.large (search rules)
-    (subst Fits (sym (inst_same c.in-Choose.b kept c.requires.given parts.1)) (second_fits whole))
-    (subst Fits (sym (inst_same c.in-Choose.c kept c.requires.given parts.2)) (third_fits whole))
+    (subst IsWithinLimits (sym (inst_same c.in-Choose.b kept c.requires.given parts.1)) (second_fits whole))
+    (subst IsWithinLimits (sym (inst_same c.in-Choose.c kept c.requires.given parts.2)) (third_fits whole))
 
 pub instantiate_parts-returns-in_ok-b-in-Choose-clause-ok : goal.instantiate_parts-returns-in_ok-b-in-Choose-clause-ok
 instantiate_parts-returns-in_ok-b-in-Choose-clause-ok t c =

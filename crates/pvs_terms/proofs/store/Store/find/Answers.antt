@@ -3,7 +3,7 @@ use Rattle.std.proofs.lemmas.List.{length-map}
 use Rattle.std.proofs.lemmas.Bool.{cases_lt}
 use Rattle.pvs_terms.proofs.TreeLaws.{ref_eq-true, ref_eq-same}
 use Rattle.pvs_terms.specs.Stored.{StandsRef, Stored, ref_at, given_ref}
-use Rattle.pvs_terms.specs.Tree.{Fits, Const, ref_eq}
+use Rattle.pvs_terms.specs.Tree.{IsWithinLimits, Const, ref_eq}
 use Rattle.pvs_terms.specs.StoreView.{reference_of}
 use Rattle.pvs_terms.proofs.StoreLaws.{refs_differ}
 use Rattle.pvs_terms.proofs.store.Store.find.Goals as goal
@@ -15,7 +15,7 @@ found c =
     record {
       ref = omega (arith, c.new-r.ensures, c.loop-i-test.true, c.len-i-end.ensures, c.self.inside.refs.ok.0, length-map c.self.inside.refs.items (reference_of c.self.inside.names), ap (λ (s : Stored). length s.refs) c.self.view_is);
       is = is;
-      fits = subst (λ r. Fits (Const r)) is c.is_given.ensures.fits;
+      fits = subst (λ r. IsWithinLimits (Const r)) is c.is_given.ensures.fits;
     }
 
 pub returns-then-is_given-clause-some : goal.returns-then-is_given-clause-some

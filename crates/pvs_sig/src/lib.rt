@@ -1,0 +1,2 @@
+//! Signatures of theories, and what is looked up in them.
+#![tactic(auto)]
