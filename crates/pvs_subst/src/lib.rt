@@ -4,12 +4,14 @@
 mod context;
 mod fault;
 mod instances;
+mod laws;
 mod lifting;
 mod putting;
 
 pub use context::{Assumed, Condition, Context};
 pub use fault::SubstFault;
 pub use instances::instantiate_node;
+pub use laws::replacement_laws;
 pub use lifting::lift;
 pub use putting::put_in;
 

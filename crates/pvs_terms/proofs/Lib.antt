@@ -1,4 +1,5 @@
 pub mod TreeLaws
 pub mod TextLaws
 pub mod StoredLaws
+pub mod SortLaws
 pub mod StoreLaws

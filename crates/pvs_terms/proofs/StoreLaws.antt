@@ -1,5 +1,5 @@
 -- What holds of the entries of a store.
-use Rattle.std.proofs.Common.{◌≡◌, ℕ, zero, suc, ◌<◌, ◌≤◌, List, [], ◌∷◌, ◌++◌, length, map, refl, ap, ap₂, sym, ◌∙◌, subst, arith}
+use Rattle.std.proofs.Common.{◌≡◌, ℕ, zero, suc, ◌+◌, ◌<◌, ◌≤◌, List, [], ◌∷◌, ◌++◌, length, map, refl, ap, ap₂, sym, ◌∙◌, subst, arith}
 use Rattle.std.proofs.lemmas.List.{length-map}
 use Rattle.std.specs.Prelude.{slice_index_or}
 use Rattle.pvs_terms.specs.Tree.{Text, Ref, IsWithinLimits, Const, AreClosed, ref_actuals}
@@ -18,6 +18,9 @@ use Rattle.std.proofs.lemmas.Bool.{cases_lt}
 use Rattle.std.proofs.Common.{length-append, inl, inr, ◌⊎◌}
 use Rattle.pvs_terms.specs.Shapes.{shape_of}
 use Rattle.pvs_terms.specs.Measures.{measure_of, ref_measure, IsSmall}
+use Rattle.pvs_terms.specs.Sorts.{HasSorts, IsSorted, IsSortedRef}
+use Rattle.pvs_terms.specs.Tree.{Tree}
+use Rattle.pvs_terms.proofs.SortLaws.{shape_sorted, given_sorted}
 
 pub entry_is_right : {ts : List Text} {es : List Entry} {rs : List RefEntry} {s : Stored} (i : ℕ) (e : Entry) → IsSound ts es rs → stored ts es rs ≡ s → IsNode s i → e ≡ slice_index_or es i e → IsRight s i e
 entry_is_right {es} {rs} i e h v n x =
@@ -59,7 +62,24 @@ right_ref-extends s t r e x h y =
 pub small_ref : {m : Measure} (r : Ref) → m ≡ ref_measure r → IsWithinLimits (Const r) → IsSmall m
 small_ref r e f = rw e (record { depth = omega (arith, f.deep); size = omega (arith, f.large); top = f.index })
 
-module _ (ts : List Text) (es : List Entry) (rs : List RefEntry) (e : Entry) (sound : IsSound ts es rs) (parts : PartsIn (stored ts es rs) e.node) (measured : e.measure ≡ measure_of (node_tree (stored ts es rs) e.node)) (small : IsSmall e.measure) where
+-- what was sorted stays so, and what is new is
+sorted_after : (s t : Stored) → Extends s t → ((i : ℕ) → i < length s.nodes → IsSorted (tree_at s i)) → (n : ℕ) → n ≡ length s.nodes → IsSorted (tree_at t n) → (i : ℕ) → i < length s.nodes + 1 → IsSorted (tree_at t i)
+sorted_after s t x f n e h i l = elim (cases_lt i (length s.nodes)) [
+  | inl lt ↦ subst IsSorted (sym (x.trees i lt)) (f i lt)
+  | inr ge ↦
+      let at : n ≡ i = omega (arith, e, l, ge) in
+      subst (λ j. IsSorted (tree_at t j)) at h
+]
+
+sorted_refs_after : (s t : Stored) → Extends s t → ((r : ℕ) → r < length s.refs → IsSortedRef (ref_at s r)) → (n : ℕ) → n ≡ length s.refs → IsSortedRef (ref_at t n) → (r : ℕ) → r < length s.refs + 1 → IsSortedRef (ref_at t r)
+sorted_refs_after s t x f n e h r l = elim (cases_lt r (length s.refs)) [
+  | inl lt ↦ subst IsSortedRef (sym (x.references r lt)) (f r lt)
+  | inr ge ↦
+      let at : n ≡ r = omega (arith, e, l, ge) in
+      subst (λ j. IsSortedRef (ref_at t j)) at h
+]
+
+module _ (ts : List Text) (es : List Entry) (rs : List RefEntry) (e : Entry) (sound : IsSound ts es rs) (parts : PartsIn (stored ts es rs) e.node) (sorts : HasSorts (node_tree (stored ts es rs) e.node)) (measured : e.measure ≡ measure_of (node_tree (stored ts es rs) e.node)) (small : IsSmall e.measure) where
   stored-push : stored ts (es ++ e ∷ []) rs ≡ pushed (stored ts es rs) e.node
   stored-push = ap (λ ns. record { names = ts; nodes = ns; refs = map (reference_of ts) rs }) (map-append (λ (y : Entry). y.node) es (e ∷ []))
 
@@ -98,14 +118,26 @@ module _ (ts : List Text) (es : List Entry) (rs : List RefEntry) (e : Entry) (so
   same_ref : (r : ℕ) → r < length rs → ref_at (stored ts (es ++ e ∷ []) rs) r ≡ ref_at (stored ts es rs) r
   same_ref r h = extends.references r (omega (arith, h, length-map rs (reference_of ts)))
 
+  sorted_new : IsSorted (tree_at (stored ts (es ++ e ∷ []) rs) (length es))
+  sorted_new = subst IsSorted (sym tree_new) (shape_sorted (stored ts es rs) (shape_of e.node) sound.sorted sound.sorted_refs parts sorts)
+
   sound_push : IsSound ts (es ++ e ∷ []) rs
   sound_push = record {
     actuals = ActualsBelow-mono (length (stored ts es rs).nodes) (length (stored ts (es ++ e ∷ []) rs).nodes) (map (reference_of ts) rs) (extends_length) sound.actuals;
     names = subst (NamesBelow (length (stored ts es rs).refs)) (sym (map-append (λ (y : Entry). y.node) es (e ∷ []))) (NamesBelow-push (length (stored ts es rs).refs) (map (λ (y : Entry). y.node) es) e.node sound.names (NameBelow-of (length (stored ts es rs).nodes) (length (stored ts es rs).refs) (shape_of e.node) parts));
+    sorted = λ i h. sorted_after (stored ts es rs) (stored ts (es ++ e ∷ []) rs) extends sound.sorted (length es) (sym length_nodes) sorted_new i (omega (arith, h, length_nodes, length-map (es ++ e ∷ []) (λ (y : Entry). y.node), length-append es (e ∷ [])));
+    sorted_refs = λ r h. subst IsSortedRef (sym (extends.references r h)) (sound.sorted_refs r h);
     distinct = λ r q a b k. sound.distinct r q a b (sym (same_ref r a) ∙ k ∙ same_ref q b);
     nodes = nodes_push;
     refs = λ r d h x. right_ref-extends (stored ts es rs) (stored ts (es ++ e ∷ []) rs) r d extends (omega (arith, h, length-map rs (reference_of ts))) (sound.refs r d h x);
   }
+
+-- the trees and the references of a store are sorted
+pub tree_sorted : {ts : List Text} {es : List Entry} {rs : List RefEntry} {s : Stored} (i : ℕ) → IsSound ts es rs → stored ts es rs ≡ s → IsNode s i → IsSorted (tree_at s i)
+tree_sorted {ts} {es} {rs} i h v = subst (λ t. IsNode t i → IsSorted (tree_at t i)) v (h.sorted i)
+
+pub ref_sorted : {ts : List Text} {es : List Entry} {rs : List RefEntry} {s : Stored} (r : ℕ) → IsSound ts es rs → stored ts es rs ≡ s → IsRef s r → IsSortedRef (ref_at s r)
+ref_sorted {ts} {es} {rs} r h v = subst (λ t. IsRef t r → IsSortedRef (ref_at t r)) v (h.sorted_refs r)
 
 -- what a push leaves, where the fields are known by equations
 pub record IsPushed (s t : Stored) (n : Node) (ts : List Text) (es : List Entry) (rs : List RefEntry) (i : ℕ) : Type 0 where
@@ -113,20 +145,20 @@ pub record IsPushed (s t : Stored) (n : Node) (ts : List Text) (es : List Entry)
   pub extends : Extends s t
   pub stands : Stands t (node_tree s n) i
 
-pub pushed_is : {ts : List Text} {es fs : List Entry} {rs : List RefEntry} {s : Stored} {i : ℕ} (e : Entry) → IsSound ts es rs → stored ts es rs ≡ s → fs ≡ es ++ e ∷ [] → PartsIn s e.node → e.measure ≡ measure_of (node_tree s e.node) → IsSmall e.measure → i ≡ length es → IsPushed s (stored ts fs rs) e.node ts fs rs i
-pushed_is {ts} {es} {fs} {rs} {s} {i} e sound v fs_is parts measured small at =
+pub pushed_is : {ts : List Text} {es fs : List Entry} {rs : List RefEntry} {s : Stored} {i : ℕ} (e : Entry) → IsSound ts es rs → stored ts es rs ≡ s → fs ≡ es ++ e ∷ [] → PartsIn s e.node → HasSorts (node_tree s e.node) → e.measure ≡ measure_of (node_tree s e.node) → IsSmall e.measure → i ≡ length es → IsPushed s (stored ts fs rs) e.node ts fs rs i
+pushed_is {ts} {es} {fs} {rs} {s} {i} e sound v fs_is parts sorts measured small at =
     subst (λ f. IsPushed s (stored ts f rs) e.node ts f rs i) (sym fs_is)
-    (subst (λ t. PartsIn t e.node → e.measure ≡ measure_of (node_tree t e.node) → IsPushed t (stored ts (es ++ e ∷ []) rs) e.node ts (es ++ e ∷ []) rs i) v
-    (λ p m. record {
-      sound = sound_push ts es rs e sound p m small;
-      extends = extends ts es rs e sound p m small;
+    (subst (λ t. PartsIn t e.node → HasSorts (node_tree t e.node) → e.measure ≡ measure_of (node_tree t e.node) → IsPushed t (stored ts (es ++ e ∷ []) rs) e.node ts (es ++ e ∷ []) rs i) v
+    (λ p o m. record {
+      sound = sound_push ts es rs e sound p o m small;
+      extends = extends ts es rs e sound p o m small;
       stands = subst (Stands (stored ts (es ++ e ∷ []) rs) (node_tree (stored ts es rs) e.node)) (sym at) (record {
         node = omega (arith, length-map (es ++ e ∷ []) (λ (y : Entry). y.node), length-append es (e ∷ []));
-        tree = tree_new ts es rs e sound p m small;
-        fits = fits_new ts es rs e sound p m small;
+        tree = tree_new ts es rs e sound p o m small;
+        fits = fits_new ts es rs e sound p o m small;
       });
     })
-    parts measured)
+    parts sorts measured)
 
 pub refs_differ : {ts : List Text} {es : List Entry} {rs : List RefEntry} {s : Stored} (r q : ℕ) → IsSound ts es rs → stored ts es rs ≡ s → IsRef s r → IsRef s q → ref_at s r ≡ ref_at s q → r ≡ q
 refs_differ {ts} {es} {rs} r q h v a b k =
@@ -194,10 +226,15 @@ module _ (ts : List Text) (es : List Entry) (rs : List RefEntry) (e : RefEntry) 
         subst (λ j. IsRightRef (stored ts es (rs ++ e ∷ [])) j d) at (subst (λ y. IsRightRef (stored ts es (rs ++ e ∷ [])) (length rs) y) (sym same) right_ref_new)
   ]
 
+  sorted_ref_new : IsSortedRef (ref_at (stored ts es (rs ++ e ∷ [])) (length rs))
+  sorted_ref_new = subst IsSortedRef (sym ref_new) (given_sorted (stored ts es rs) e.kind e.actuals.items sound.sorted new.actuals)
+
   sound_ref : IsSound ts es (rs ++ e ∷ [])
   sound_ref = record {
     actuals = subst (ActualsBelow (length (stored ts es rs).nodes)) (sym (map-append (reference_of ts) rs (e ∷ []))) (actuals_push (length (stored ts es rs).nodes) (map (reference_of ts) rs) (reference_of ts e) sound.actuals new.actuals);
     names = NamesBelow-mono (length (stored ts es rs).refs) (length (stored ts es (rs ++ e ∷ [])).refs) (map (λ (y : Entry). y.node) es) longer_refs sound.names;
+    sorted = λ i h. subst IsSorted (sym (extends_ref.trees i h)) (sound.sorted i h);
+    sorted_refs = λ r h. sorted_refs_after (stored ts es rs) (stored ts es (rs ++ e ∷ [])) extends_ref sound.sorted_refs (length rs) (sym length_refs) sorted_ref_new r (omega (arith, h, length_refs, length-map (rs ++ e ∷ []) (reference_of ts), length-append rs (e ∷ [])));
     distinct = distinct_ref;
     nodes = λ i d h x. right-extends (stored ts es rs) (stored ts es (rs ++ e ∷ [])) i d extends_ref (omega (arith, h, length-map es (λ (y : Entry). y.node))) longer_refs (sound.nodes i d h x);
     refs = right_refs;
@@ -289,6 +326,8 @@ named_is {ts} {es} {rs} {s} us sound v keeps =
       sound = record {
         actuals = subst (ActualsBelow (length (stored ts es rs).nodes)) (sym refs_are) sound.actuals;
         names = subst (λ n. NamesBelow n (stored ts es rs).nodes) (sym lengths) sound.names;
+        sorted = λ i h. subst IsSorted (sym (x.trees i h)) (sound.sorted i h);
+        sorted_refs = λ r h. subst IsSortedRef (sym (x.references r (omega (arith, h, lengths)))) (sound.sorted_refs r (omega (arith, h, lengths)));
         distinct = λ r q a b k. sound.distinct r q a b (sym (x.references r (omega (arith, a, length-map rs (reference_of ts)))) ∙ k ∙ x.references q (omega (arith, b, length-map rs (reference_of ts))));
         nodes = λ i d h y. right-extends (stored ts es rs) (stored us es rs) i d x (omega (arith, h, length-map es (λ (y : Entry). y.node))) (omega (arith, lengths)) (sound.nodes i d h y);
         refs = λ r d h y. right_ref-extends (stored ts es rs) (stored us es rs) r d x (omega (arith, h, length-map rs (reference_of ts))) (sound.refs r d h y);

@@ -11,6 +11,7 @@ use Rattle.pvs_terms.specs.declared.shape.Shape.{Shape}
 use Rattle.pvs_terms.specs.declared.shape.Shape.TheVariants as shape
 use Rattle.pvs_terms.specs.Shapes.{shape_of}
 use Rattle.pvs_terms.specs.Measures.{measure_of, ref_measure}
+use Rattle.pvs_terms.specs.Sorts.{IsSorted, IsSortedRef}
 
 abbrev pub reference_of : List Text → RefEntry → Reference
 reference_of ts r = record { kind = r.kind; theory = theory_in ts r.kind; actuals = r.actuals.items }
@@ -56,6 +57,8 @@ pub record IsRightRef (s : Stored) (r : ℕ) (e : RefEntry) : Type 0 where
 pub record IsSound (ts : List Text) (es : List Entry) (rs : List RefEntry) : Type 0 where
   pub actuals : ActualsBelow (length (stored ts es rs).nodes) (stored ts es rs).refs
   pub names : NamesBelow (length (stored ts es rs).refs) (stored ts es rs).nodes
+  pub sorted : (i : ℕ) → i < length (stored ts es rs).nodes → IsSorted (tree_at (stored ts es rs) i)
+  pub sorted_refs : (r : ℕ) → r < length (stored ts es rs).refs → IsSortedRef (ref_at (stored ts es rs) r)
   pub distinct : (r q : ℕ) → r < length rs → q < length rs → ref_at (stored ts es rs) r ≡ ref_at (stored ts es rs) q → r ≡ q
   pub nodes : (i : ℕ) (e : Entry) → i < length es → e ≡ slice_index_or es i e → IsRight (stored ts es rs) i e
   pub refs : (r : ℕ) (e : RefEntry) → r < length rs → e ≡ slice_index_or rs r e → IsRightRef (stored ts es rs) r e

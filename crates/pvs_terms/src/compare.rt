@@ -1,6 +1,6 @@
 //! Whether two numbers stand for one tree or one reference.
 
-ghost use Rattle.std.specs.Prelude.{◌≡◌, length};
+ghost use Rattle.std.specs.Prelude.{◌≡◌, ◌↔◌, IsTrue, length};
 
 use crate::node::{Id, RefId, RefKind};
 use crate::shape::Shape;
@@ -14,7 +14,8 @@ impl Store {
     pub fn same_reference(&self, r: RefId, q: RefId) -> bool
         requires first { IsRef self.now r }
         requires second { IsRef self.now q }
-        ensures { result ≡ ref_eq (ref_at self.now r) (ref_at self.now q) }
+        ensures value { result ≡ ref_eq (ref_at self.now r) (ref_at self.now q) }
+        ensures equal { IsTrue result ↔ (ref_at self.now r ≡ ref_at self.now q) }
     {
         let _refs = &self.refs;
         let equal = r == q;
@@ -23,6 +24,16 @@ impl Store {
 
     /// Whether the numbers stand for one tree.
     pub fn same(&self, a: Id, b: Id) -> bool
+        requires first { IsNode self.now a }
+        requires second { IsNode self.now b }
+        ensures value { result ≡ tree_eq (tree_at self.now a) (tree_at self.now b) }
+        ensures equal { IsTrue result ↔ (tree_at self.now a ≡ tree_at self.now b) }
+    {
+        let equal = self.have_one_tree(a, b);
+        equal
+    }
+
+    fn have_one_tree(&self, a: Id, b: Id) -> bool
         requires first { IsNode self.now a }
         requires second { IsNode self.now b }
         ensures { result ≡ tree_eq (tree_at self.now a) (tree_at self.now b) }
@@ -44,19 +55,25 @@ impl Store {
                 _ => false,
             },
             Shape::Bind(x, a, b1) => match self.view(b).shape() {
-                Shape::Bind(y, c, d) => x == y && self.same(a, c) && self.same(b1, d),
+                Shape::Bind(y, c, d) => x == y
+                    && self.have_one_tree(a, c)
+                    && self.have_one_tree(b1, d),
                 _ => false,
             },
             Shape::Join(x, a, b1) => match self.view(b).shape() {
-                Shape::Join(y, c, d) => x == y && self.same(a, c) && self.same(b1, d),
+                Shape::Join(y, c, d) => x == y
+                    && self.have_one_tree(a, c)
+                    && self.have_one_tree(b1, d),
                 _ => false,
             },
             Shape::Project(x, a) => match self.view(b).shape() {
-                Shape::Project(y, c) => x == y && self.same(a, c),
+                Shape::Project(y, c) => x == y && self.have_one_tree(a, c),
                 _ => false,
             },
             Shape::Choose(x, y, z) => match self.view(b).shape() {
-                Shape::Choose(u, v, w) => self.same(x, u) && self.same(y, v) && self.same(z, w),
+                Shape::Choose(u, v, w) => self.have_one_tree(x, u)
+                    && self.have_one_tree(y, v)
+                    && self.have_one_tree(z, w),
                 _ => false,
             },
         }
@@ -75,7 +92,7 @@ impl Store {
             },
             Some((x, xs)) => match ys.split_first() {
                 None => false,
-                Some((y, ys)) => self.same(*x, *y) && self.same_all(xs, ys),
+                Some((y, ys)) => self.have_one_tree(*x, *y) && self.same_all(xs, ys),
             },
         }
     }

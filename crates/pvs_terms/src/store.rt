@@ -55,6 +55,7 @@ impl Store {
     ghost use Rattle.pvs_terms.specs.Stored.{node_tree, ref_of, given_ref, Stands, StandsRef, StandsName, Extends};
     ghost use Rattle.pvs_terms.specs.Measures.{measure_of, ref_measure, trees_measure, above, beside, under, IsSmall};
     ghost use Rattle.pvs_terms.specs.Shapes.{shape_of};
+    ghost use Rattle.pvs_terms.specs.Sorts.{HasSorts, IsSorted};
 
     /// A store without nodes, names and references.
     pub fn new(alloc: Global) -> Result<Store, AllocError>
@@ -101,7 +102,8 @@ impl Store {
     pub fn same_name(&self, a: Name, b: Name) -> bool
         requires first { IsName self.now a }
         requires second { IsName self.now b }
-        ensures { result ≡ bytes_eq (text_at self.now a) (text_at self.now b) }
+        ensures value { result ≡ bytes_eq (text_at self.now a) (text_at self.now b) }
+        ensures equal { IsTrue result ↔ (text_at self.now a ≡ text_at self.now b) }
     {
         self.names.same(a.number(), b.number())
     }
@@ -111,9 +113,10 @@ impl Store {
         requires { IsNode self.now id }
         ensures tree { tree_at self.now id ≡ node_tree self.now result }
 
-        // Its parts are older, and its tree is within the limits.
+        // Its parts are older, and its tree is within the limits and has parts of the right sorts.
         ensures parts { HasParts id (length self.now.refs) (shape_of result) }
         ensures fits { IsWithinLimits (tree_at self.now id) }
+        ensures sorted { IsSorted (tree_at self.now id) }
     {
         self.entries[id.number() as usize].node
     }
@@ -213,9 +216,12 @@ impl Store {
         }
     }
 
-    /// The number of a node, which stands for its tree.
+    /// The number of a node, which stands for its tree. Its parts are nodes of the store, a type
+    /// where a type stands and a term where a term stands, and its number of components is at
+    /// least 2.
     pub fn make(&mut self, node: Node) -> Result<Id, MakeFault>
-        requires { PartsIn self.old node }
+        requires parts { PartsIn self.old node }
+        requires sorted { HasSorts (node_tree self.old node) }
         ensures ok { IfOk result (Stands self.new (node_tree self.old node)) }
         ensures large { result ≡ Err MakeFault.TooLarge → ¬ IsWithinLimits (node_tree self.old node) }
         ensures kept { Extends self.old self.new }

@@ -8,7 +8,7 @@ made : (c : goal.In_ok-push) → IsPushed c.args.self.now (stored c.self.inside.
 made c =
     let small : IsSmall c.measure-measure.result = search rules in
     let at : c.new-id.result ≡ length c.self.inside.entries.items = omega (arith, c.new-id.ensures, c.len.ensures, c.self.inside.entries.ok.0) in
-    pushed_is (record { node = c.args.node; measure = c.measure-measure.result }) c.self.invariant c.self.view_is c.in_ok-push.ensures.items c.requires c.measure-measure.ensures small at
+    pushed_is (record { node = c.args.node; measure = c.measure-measure.result }) c.self.invariant c.self.view_is c.in_ok-push.ensures.items c.requires.parts c.requires.sorted c.measure-measure.ensures small at
 
 pub invariant_of-self-2 : goal.invariant_of-self-2
 invariant_of-self-2 c = (made c).sound

@@ -1,4 +1,4 @@
-use Rattle.pvs_terms.proofs.StoreLaws.{entry_is_right}
+use Rattle.pvs_terms.proofs.StoreLaws.{entry_is_right, tree_sorted}
 use Rattle.pvs_terms.proofs.store.Store.view.Goals as goal
 
 pub returns-clause-tree : goal.returns-clause-tree
@@ -9,3 +9,6 @@ returns-clause-parts c = (entry_is_right c.args.id c.index.result.now c.self.inv
 
 pub returns-clause-fits : goal.returns-clause-fits
 returns-clause-fits c = (entry_is_right c.args.id c.index.result.now c.self.invariant c.self.view_is c.requires (rw (← c.number.ensures) c.index.ensures)).fits
+
+pub returns-clause-sorted : goal.returns-clause-sorted
+returns-clause-sorted c = tree_sorted c.args.id c.self.invariant c.self.view_is c.requires
