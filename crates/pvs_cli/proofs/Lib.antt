@@ -1,7 +1,7 @@
 pub mod Loops
 pub mod TreeLists
 pub mod LineLaws
-pub mod PassingLaws
+pub mod InputLaws
 pub mod SoundSteps
 pub mod SoundReplay
 pub mod IndexLaws

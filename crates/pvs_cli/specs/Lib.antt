@@ -13,9 +13,9 @@ pub mod Verdicts
 pub mod Lines
 pub mod Printed
 pub mod Reporting
-pub mod Passing
+pub mod Input
 pub mod Soundness
-pub mod Codes
+pub mod ExitCodes
 pub mod Output
 pub mod SoundFacts
 pub mod OpenExample

@@ -1,5 +1,6 @@
--- What a run is to write, and how it is to end.
-use Rattle.std.specs.Prelude.{◌≡◌, ◌≤◌, ◌+◌, ◌^◌, ◌||◌, ℕ, Bool, true, false, codes, if◌then◌else◌, List, [], ◌∷◌, ◌++◌, length, take, Option, Some, None, ⊤}
+-- What a run is to write and how it is to end, and what it wrote. Bytes that a source or a sink does not expose to contracts are None. No
+-- call changes whether they are exposed.
+use Rattle.std.specs.Prelude.{◌≡◌, ◌≤◌, ◌<◌, ◌+◌, ◌^◌, ◌||◌, ℕ, Bool, true, false, codes, if◌then◌else◌, List, [], ◌∷◌, ◌++◌, length, take, Option, Some, None, ⊤}
 use Rattle.std.specs.List.{list_any}
 use Rattle.pvs_cli.specs.declared.status.Status.{Status}
 use Rattle.pvs_cli.specs.declared.status.Status.TheVariants as status
@@ -11,8 +12,8 @@ abbrev pub is_unfinished : Line → Bool
 is_unfinished l = is_open l || is_refused l
 
 -- how a run ends that wrote these lines
-abbrev pub status_of : List Line → Status
-status_of ls = if list_any is_unfinished ls then status.Unfinished else status.Clean
+abbrev pub exit_status : List Line → Status
+exit_status ls = if list_any is_unfinished ls then status.Unfinished else status.Clean
 
 -- the words of the command line are the single word check
 abbrev pub IsCheck : List (List ℕ) → Type 0
@@ -26,50 +27,68 @@ abbrev pub text_of : List ℕ → List ℕ
 text_of input = take (2 ^ 20 + 1) input
 
 -- What is to be written for words and an input, and how the run is to end: the usage line, or the report of the text.
-pub data IsOut (words : List (List ℕ)) (input : List ℕ) : List ℕ → Status → Type 0 where
-  usage : (IsCheck words → ⊥) → IsOut words input usage_line status.BadWords
-  report : IsCheck words → (lines : List Line) → IsReport (text_of input) lines → IsOut words input (bytes_of lines) (status_of lines)
+pub data IsOutput (words : List (List ℕ)) (input : List ℕ) : List ℕ → Status → Type 0 where
+  usage : (IsCheck words → ⊥) → IsOutput words input usage_line status.BadWords
+  report : IsCheck words → (lines : List Line) → IsReport (text_of input) lines → IsOutput words input (bytes_of lines) (exit_status lines)
 
--- a run that ended so wrote all that it was to write
-abbrev pub is_whole : Status → Bool
-is_whole status.Clean = true
-is_whole status.Unfinished = true
-is_whole status.BadWords = true
-is_whole _ = false
+-- for these words and each input, there is at most one output, with one status
+abbrev pub HasOneOutput : List (List ℕ) → Type 0
+HasOneOutput words = (input bytes others : List ℕ) (end other : Status) → IsOutput words input bytes end → IsOutput words input others other → (bytes ≡ others) × (end ≡ other)
 
--- where the input and the output are told: all that was to be written was written, and the run ended as it was to end
-abbrev pub WritesAll : List (List ℕ) → Option (List ℕ) → Option (List ℕ) → Option (List ℕ) → Status → Type 0
-WritesAll words (Some input) (Some before) (Some after) end = (bytes : List ℕ) × IsOut words input bytes end × (after ≡ before ++ bytes)
-WritesAll words _ _ _ end = ⊤
+-- a run that ended so wrote its whole output
+abbrev pub has_whole_output : Status → Bool
+has_whole_output status.Clean = true
+has_whole_output status.Unfinished = true
+has_whole_output status.BadWords = true
+has_whole_output _ = false
 
--- where they are told: what was written is a front of what was to be written
-abbrev pub WritesFront : List (List ℕ) → Option (List ℕ) → Option (List ℕ) → Option (List ℕ) → Type 0
-WritesFront words (Some input) (Some before) (Some after) = (bytes : List ℕ) (end : Status) → IsOut words input bytes end → (k : ℕ) × (after ≡ before ++ take k bytes)
-WritesFront words _ _ _ = ⊤
+-- bytes were added to the output: all of these, or else a proper prefix
+abbrev pub Adds : Option (List ℕ) → Option (List ℕ) → Bool → List ℕ → Type 0
+Adds None None whole bytes = ⊤
+Adds None (Some after) whole bytes = ⊥
+Adds (Some before) None whole bytes = ⊥
+Adds (Some before) (Some after) true bytes = after ≡ before ++ bytes
+Adds (Some before) (Some after) false bytes = (k : ℕ) × (k < length bytes) × (after ≡ before ++ take k bytes)
 
--- where what is left of the input is told: so many bytes were taken at most
-abbrev pub TakesAtMost : ℕ → Option (List ℕ) → Option (List ℕ) → Type 0
-TakesAtMost most (Some old) (Some new) = (bytes : List ℕ) × (length bytes ≤ most) × (bytes ++ new ≡ old)
-TakesAtMost most _ _ = ⊤
+-- A run that was to write an output of this kind, and to end with its status, ended with `result`: there is such an output, and the run wrote
+-- all of it and ended as it was to end, or it ended with a fault and wrote a proper prefix.
+pub record WritesOutput (IsMeant : List ℕ → Status → Type 0) (before after : Option (List ℕ)) (result : Status) : Type 0 where
+  pub bytes : List ℕ
+  pub end : Status
+  pub meant : IsMeant bytes end
+  pub added : Adds before after (has_whole_output result) bytes
+  pub status : has_whole_output result ≡ true → result ≡ end
 
--- where what is left of the input is told: the text of a unit was taken
+-- The same for an output that depends on the input, by the bytes that were left before and after the run. An input that is not exposed is
+-- some text, of at most one byte more than a text may have.
+abbrev pub WritesFor : (List ℕ → List ℕ → Status → Type 0) → Option (List ℕ) → Option (List ℕ) → Option (List ℕ) → Option (List ℕ) → Status → Type 0
+WritesFor IsMeant None None before after result = (text : List ℕ) × (length text ≤ 2 ^ 20 + 1) × WritesOutput (IsMeant text) before after result
+WritesFor IsMeant None (Some left) before after result = ⊥
+WritesFor IsMeant (Some input) None before after result = ⊥
+WritesFor IsMeant (Some input) (Some left) before after result = WritesOutput (IsMeant input) before after result
+
+-- what a run with these words wrote, and how it ended
+abbrev pub Writes : List (List ℕ) → Option (List ℕ) → Option (List ℕ) → Option (List ℕ) → Option (List ℕ) → Status → Type 0
+Writes words old new before after result = WritesFor (IsOutput words) old new before after result
+
+-- the text of a unit was taken
 abbrev pub TakesUnit : Option (List ℕ) → Option (List ℕ) → Type 0
+TakesUnit None None = ⊤
+TakesUnit None (Some new) = ⊥
+TakesUnit (Some old) None = ⊥
 TakesUnit (Some old) (Some new) = text_of old ++ new ≡ old
-TakesUnit _ _ = ⊤
 
 -- bytes are those of the report of a text, and a run that wrote them ends so
 abbrev pub IsReportOf : List ℕ → List ℕ → Status → Type 0
-IsReportOf text bytes end = (lines : List Line) × IsReport text lines × (bytes ≡ bytes_of lines) × (end ≡ status_of lines)
+IsReportOf text bytes end = (lines : List Line) × IsReport text lines × (bytes ≡ bytes_of lines) × (end ≡ exit_status lines)
 
--- the report of a text, and how a run ends that wrote it
-abbrev pub IsReportIn : List ℕ → Option (List ℕ) → Option (List ℕ) → Status → Type 0
-IsReportIn text (Some before) (Some after) end = (bytes : List ℕ) × IsReportOf text bytes end × (after ≡ before ++ bytes)
-IsReportIn text _ _ end = ⊤
+-- the report of a text was written, as above
+abbrev pub WritesReportOf : List ℕ → Option (List ℕ) → Option (List ℕ) → Status → Type 0
+WritesReportOf text before after result = WritesOutput (IsReportOf text) before after result
 
--- where the output is told: a front of the bytes was added
-abbrev pub AddsFront : Option (List ℕ) → Option (List ℕ) → List ℕ → Type 0
-AddsFront (Some before) (Some after) bytes = (k : ℕ) × (after ≡ before ++ take k bytes)
-AddsFront _ _ bytes = ⊤
+-- the report of the text of the input was written, as above
+abbrev pub WritesReport : Option (List ℕ) → Option (List ℕ) → Option (List ℕ) → Option (List ℕ) → Status → Type 0
+WritesReport old new before after result = WritesFor (λ input. IsReportOf (text_of input)) old new before after result
 
 -- how the writing of a report may end
 abbrev pub ends_writing : Status → Bool
@@ -83,13 +102,3 @@ ends_writing _ = false
 abbrev pub ends_check : Status → Bool
 ends_check status.InputFault = true
 ends_check end = ends_writing end
-
--- where input and output are told: the report of the text of the input was written
-abbrev pub WritesReport : Option (List ℕ) → Option (List ℕ) → Option (List ℕ) → Status → Type 0
-WritesReport (Some input) before after end = IsReportIn (text_of input) before after end
-WritesReport None before after end = ⊤
-
--- where they are told: a front of it was written
-abbrev pub WritesReportFront : Option (List ℕ) → Option (List ℕ) → Option (List ℕ) → Type 0
-WritesReportFront (Some input) before after = (bytes : List ℕ) (end : Status) → IsReportOf (text_of input) bytes end → AddsFront before after bytes
-WritesReportFront None before after = ⊤

@@ -1,5 +1,5 @@
 -- What is printed complete is true.
-use Rattle.std.specs.Prelude.{◌≡◌, ◌<◌, ℕ, true, List, ◌∷◌, ◌++◌, slice_get, Contains, Option, Some, Ok, ⊤}
+use Rattle.std.specs.Prelude.{◌≡◌, ◌≤◌, ◌<◌, ◌+◌, ◌^◌, ℕ, true, List, ◌∷◌, ◌++◌, length, slice_get, Contains, Option, None, Some, Ok, ⊤}
 use Rattle.pvs_syntax.specs.declared.unit.Theory.{Theory}
 use Rattle.pvs_syntax.specs.declared.unit.Item.{Item}
 use Rattle.pvs_syntax.specs.declared.unit.Item.TheVariants as item
@@ -27,7 +27,16 @@ IsSound text lines = (u : unit.Unit) (before after : List Item) (t : Theory) (es
     → Contains lines (FormulaLine (spelling text t.name) name CompleteWord)
     → Fits m es x → truth m body ≡ true
 
--- where input and output are told: the lines of the report of the input were added, and what they print as complete is true
-abbrev pub WritesTruth : Option (List ℕ) → Option (List ℕ) → Option (List ℕ) → Type 0
-WritesTruth (Some input) (Some before) (Some after) = (lines : List Line) × IsReport (text_of input) lines × (after ≡ before ++ bytes_of lines) × IsSound (text_of input) lines
-WritesTruth _ _ _ = ⊤
+-- where the output is exposed: the lines of the report of a text were added, and what they print as complete is true
+abbrev pub AddsTruth : List ℕ → Option (List ℕ) → Option (List ℕ) → Type 0
+AddsTruth text None None = ⊤
+AddsTruth text None (Some after) = ⊥
+AddsTruth text (Some before) None = ⊥
+AddsTruth text (Some before) (Some after) = (lines : List Line) × IsReport text lines × (after ≡ before ++ bytes_of lines) × IsSound text lines
+
+-- the same of the text of the input, by the bytes that were left before and after the run; of some text where they are not exposed
+abbrev pub WritesTruth : Option (List ℕ) → Option (List ℕ) → Option (List ℕ) → Option (List ℕ) → Type 0
+WritesTruth None None before after = (text : List ℕ) × (length text ≤ 2 ^ 20 + 1) × AddsTruth text before after
+WritesTruth None (Some left) before after = ⊥
+WritesTruth (Some input) None before after = ⊥
+WritesTruth (Some input) (Some left) before after = AddsTruth (text_of input) before after

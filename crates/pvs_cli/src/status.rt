@@ -1,41 +1,40 @@
 //! How a run ends.
 
 ghost use Rattle.std.specs.Prelude.{◌≡◌};
-ghost use Rattle.pvs_cli.specs.Codes.{code_of};
+ghost use Rattle.pvs_cli.specs.ExitCodes.{exit_code};
 
 /// How a run ended.
 #[derive(Clone, Copy, Debug, PartialEq, Eq)]
 pub enum Status {
-    /// All was written, nothing is refused, and every lemma is complete.
+    /// The whole report was written. Nothing was refused, and every lemma is complete.
     Clean,
 
-    /// All was written, but something is refused, or a lemma is not complete.
+    /// The whole report was written. Something was refused, or a lemma is not complete.
     Unfinished,
 
-    /// The words of the command line are none that the program knows, and the usage line was
-    /// written.
+    /// The program has no such command line. The usage line was written.
     BadWords,
 
     /// The input failed. Nothing was written.
     InputFault,
 
-    /// The output failed. A front of what was to be written was written.
+    /// The output failed. A proper prefix of the output was written.
     OutputFault,
 
-    /// The input is no list of commands.
+    /// The input is not a list of commands. The program does not end so yet.
     BadStream,
 
-    /// The input is longer than a session may be.
+    /// The input is longer than a session may be. The program does not end so yet.
     TooMuchInput,
 
-    /// There is no memory. A front of what was to be written was written.
+    /// Memory ran out. A proper prefix of the output was written.
     Memory,
 }
 
 impl Status {
-    /// The number that the program ends with. This takes no memory.
+    /// The exit code of the program, from 0 to 7 in the order above. This takes no memory.
     pub fn code(self) -> u8
-        ensures { result ≡ code_of self }
+        ensures { result ≡ exit_code self }
     {
         match self {
             Status::Clean => 0,

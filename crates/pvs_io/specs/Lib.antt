@@ -1,4 +1,4 @@
 pub mod Outside
-pub mod Held
+pub mod Contents
 pub mod Memory
 pub mod Standard

@@ -1,7 +1,7 @@
--- A source, a sink and files in memory: what they are, what they answer, and what they are after it.
+-- A source, a sink and files in memory: their state, their answers, and their state after an answer.
 use Rattle.std.specs.Prelude.{◌≡◌, ◌==◌, ◌-◌, ℕ, Bool, min, List, [], ◌∷◌, ◌++◌, length, take, drop, is_some, map, String, string_bytes, Vec, if◌then◌else◌}
 use Rattle.std.specs.List.{list_any}
-use Rattle.pvs_io.specs.Held.{Held, content_of}
+use Rattle.pvs_io.specs.Contents.{Contents, content_of}
 use Rattle.pvs_io.specs.Outside.{next_count}
 use Rattle.pvs_io.specs.declared.source.Took.{Took}
 use Rattle.pvs_io.specs.declared.source.Took.TheVariants as took
@@ -10,12 +10,12 @@ use Rattle.pvs_io.specs.declared.sink.Gave.TheVariants as gave
 use Rattle.pvs_io.specs.declared.files.Load.{Load}
 use Rattle.pvs_io.specs.declared.files.Load.TheVariants as load
 
--- the calls that fail hold the call of that number
+-- the call of this number is among those that fail
 abbrev pub is_listed : List ℕ → ℕ → Bool
 is_listed fails call = list_any (λ n. n == call) fails
 
--- what a source in memory has left and gives at most at a call; the calls that fail, counted from 0;
--- how many calls there were, and how many failed
+-- the bytes that a source in memory has left, and the most that it gives in a call; the numbers of the calls that fail,
+-- counted from 0; how many calls there were, and how many failed
 pub record SourceState : Type 0 where
   pub left : List ℕ
   pub piece : ℕ
@@ -23,7 +23,7 @@ pub record SourceState : Type 0 where
   pub calls : ℕ
   pub faults : ℕ
 
--- what a take into so many places answers: it fails at the calls that are listed, and at no other
+-- the answer of a take into this many places: it fails at the calls that are listed, and at no other
 abbrev pub take_answer : SourceState → ℕ → Took
 take_answer s places =
     if is_listed s.fails s.calls then took.Failed
@@ -35,7 +35,7 @@ after_take s (took.Bytes n) = record s { left = drop n s.left; calls = next_coun
 after_take s took.End = record s { calls = next_count s.calls }
 after_take s took.Failed = record s { calls = next_count s.calls; faults = next_count s.faults }
 
--- what a sink in memory was given, and how many bytes more it has room for; the calls that fail,
+-- the bytes that a sink in memory was given, and how many more it has room for; the numbers of the calls that fail,
 -- counted from 0; how many calls there were, and how many failed
 pub record SinkState : Type 0 where
   pub written : List ℕ
@@ -44,7 +44,7 @@ pub record SinkState : Type 0 where
   pub calls : ℕ
   pub faults : ℕ
 
--- what a give of so many bytes answers: it fails at the calls that are listed and where no room is left
+-- the answer of a give of this many bytes: it fails at the calls that are listed and where no room is left
 abbrev pub give_answer : SinkState → ℕ → Gave
 give_answer s count =
     if is_listed s.fails s.calls then gave.Failed
@@ -55,29 +55,29 @@ abbrev pub after_give : SinkState → List ℕ → Gave → SinkState
 after_give s bytes (gave.Bytes n) = record s { written = s.written ++ take n bytes; room = s.room - n; calls = next_count s.calls }
 after_give s bytes gave.Failed = record s { calls = next_count s.calls; faults = next_count s.faults }
 
--- what files hold by their names and contents in the code
-abbrev pub held_of : {Y Z : Type 0} → List (String Y × Vec ℕ Z) → Held
-held_of files = map (λ file. (string_bytes file.0, file.1.items)) files
+-- the contents of the files that the code keeps
+abbrev pub file_contents : {Y Z : Type 0} → List (String Y × Vec ℕ Z) → Contents
+file_contents files = map (λ file. (string_bytes file.0, file.1.items)) files
 
--- what files in memory hold, and what they were asked for; the calls that fail, counted from 0; how
--- many calls there were, and how many failed
+-- the contents of files in memory, and the names that were asked for; the numbers of the loads that fail, counted from 0;
+-- how many loads there were, and how many failed
 pub record FilesState : Type 0 where
-  pub held : Held
-  pub asked : List (List ℕ)
+  pub contents : Contents
+  pub requests : List (List ℕ)
   pub fails : List ℕ
   pub calls : ℕ
   pub faults : ℕ
 
--- what a load of that name answers where memory is found: it fails at the calls that are listed and
--- where no file has the name
+-- the answer of a load of that name, unless memory runs out: it fails at the calls that are listed and where no file has
+-- the name
 abbrev pub load_answer : FilesState → List ℕ → Load
 load_answer s name =
     if is_listed s.fails s.calls then load.Failed
-    else (if is_some (content_of s.held name) then load.Done else load.Failed)
+    else (if is_some (content_of s.contents name) then load.Done else load.Failed)
 
--- the files after a load of that name; where memory is wanting, the names that were asked for are left open
+-- the files after a load of that name; if memory ran out, nothing is said of the names that were asked for
 abbrev pub IsAfterLoad : FilesState → FilesState → List ℕ → Load → Type 0
-IsAfterLoad old new name load.Done = new ≡ record old { asked = old.asked ++ name ∷ []; calls = next_count old.calls }
+IsAfterLoad old new name load.Done = new ≡ record old { requests = old.requests ++ name ∷ []; calls = next_count old.calls }
 IsAfterLoad old new name load.Failed =
-    new ≡ record old { asked = old.asked ++ name ∷ []; calls = next_count old.calls; faults = next_count old.faults }
-IsAfterLoad old new name load.Memory = new ≡ record old { asked = new.asked; calls = next_count old.calls }
+    new ≡ record old { requests = old.requests ++ name ∷ []; calls = next_count old.calls; faults = next_count old.faults }
+IsAfterLoad old new name load.Memory = new ≡ record old { requests = new.requests; calls = next_count old.calls }

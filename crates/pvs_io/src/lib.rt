@@ -1,5 +1,6 @@
-//! What the checker meets outside: a source of bytes, a sink for bytes, and files by name. Each is
-//! a trait, with things in memory that meet it exactly and thin ones over the standard streams.
+//! The checker's input and output: a source of bytes, a sink for bytes, and files by name. Each is
+//! a trait, with an implementation in memory, and those of the source and the sink over the
+//! standard streams.
 #![tactic(auto)]
 
 mod files;

@@ -1,5 +1,5 @@
-//! A source, a sink and files in memory. They tell what they hold, and fail only where they are
-//! told to.
+//! A source, a sink and files in memory. They expose their contents to contracts, and fail only
+//! where they are made to.
 
 mod files;
 mod sink;

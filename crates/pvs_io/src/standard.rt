@@ -1,4 +1,4 @@
-//! A source and a sink over the standard streams. They tell nothing of the bytes.
+//! A source and a sink over the standard streams. They do not expose the bytes to contracts.
 
 ghost use Rattle.std.specs.Prelude.{◌≡◌, ◌<◌, None, length};
 ghost use Rattle.pvs_io.specs.Outside.{Gives, HasCause, IsGiveOf, IsTakeOf, Takes};
@@ -9,8 +9,8 @@ use crate::source::{Source, Took};
 use std::io::{Read, Write};
 use std::marker::Model;
 
-/// A source over a reader, as standard input is one. Contracts see the reader and the count of
-/// its errors.
+/// A source over a reader, such as standard input. Contracts see the reader and the number of its
+/// errors.
 #[derive(Drop)]
 pub struct StdSource<R> {
     reader: R,
@@ -61,9 +61,9 @@ impl<R: Read> Source for StdSource<R> {
     }
 }
 
-/// A sink over a writer, as standard output is one. Contracts see the writer and the count of
-/// its errors and of the times that it took nothing. Each give flushes the writer. Where that
-/// fails, the give fails, and the writer may have got some of the bytes all the same.
+/// A sink over a writer, such as standard output. Contracts see the writer and the number of calls
+/// that failed: by an error, or because the writer took nothing. Each call flushes the writer. If
+/// that fails, the call fails, although the writer may have taken some of the bytes.
 #[derive(Drop)]
 pub struct StdSink<W> {
     writer: W,

@@ -72,11 +72,11 @@ fn sink_fails_and_fills_its_room(rt: HostRuntime) -> Result<(), Fail> {
 #[test]
 fn files_by_name(rt: HostRuntime) -> Result<(), Fail> {
     let alloc = rt.alloc();
-    let held = vec![in alloc;
+    let contents = vec![in alloc;
         (String::from_str(alloc, "a")?, b"first".to_vec(alloc)?),
         (String::from_str(alloc, "b")?, b"second".to_vec(alloc)?),
     ]?;
-    let mut files = MemFiles::new(alloc, held, vec![in alloc; 2]?);
+    let mut files = MemFiles::new(alloc, contents, vec![in alloc; 2]?);
     let mut into = b"old".to_vec(alloc)?;
     assert_eq!(rt; load_from(&mut files, "c", 9, &mut into), Load::Failed);
     assert_eq!(rt; load_from(&mut files, "b", 4, &mut into), Load::Done);

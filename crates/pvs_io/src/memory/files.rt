@@ -1,22 +1,22 @@
 //! Files in memory.
 
-ghost use Rattle.std.specs.Prelude.{◌≡◌, ◌≢◌, ◌++◌, ◌∷◌, [], Some, map, take, string_bytes, OnOk, OnErr};
+ghost use Rattle.std.specs.Prelude.{◌≡◌, ◌≢◌, ◌≤◌, ◌++◌, ◌∷◌, [], Some, map, take, string_bytes, OnOk, OnErr, vec_len};
 ghost use Rattle.std.specs.Option.{option_map};
 ghost use Rattle.std.specs.List.Sorted.{IsStrictlyIncreasing};
-ghost use Rattle.pvs_io.specs.Held.{HasDistinctNames, content_of};
-ghost use Rattle.pvs_io.specs.Memory.{FilesState, IsAfterLoad, held_of, load_answer};
+ghost use Rattle.pvs_io.specs.Contents.{HasDistinctNames, content_of};
+ghost use Rattle.pvs_io.specs.Memory.{FilesState, IsAfterLoad, file_contents, load_answer};
 ghost use Rattle.pvs_io.specs.Outside.{Asks, HasCause, Loads};
 
 use crate::files::{Files, Load};
 use std::alloc::{AllocError, Global};
 use std::marker::Model;
 
-/// Files that are kept by their names.
+/// Files in memory, found by their names.
 #[derive(Drop)]
 pub struct MemFiles {
     alloc: Global,
     files: Vec<(String, Vec<u8>)>,
-    asked: Vec<String>,
+    requests: Vec<String>,
     fails: Vec<u64>,
     calls: u64,
     faults: u64,
@@ -24,13 +24,13 @@ pub struct MemFiles {
 
 impl Model for MemFiles {
     ghost use Rattle.std.specs.Prelude.{map, string_bytes};
-    ghost use Rattle.pvs_io.specs.Memory.{FilesState, held_of};
+    ghost use Rattle.pvs_io.specs.Memory.{FilesState, file_contents};
 
     ghost Value = { FilesState };
 
     ghost view = { λ s. record {
-      held = held_of s.files.items;
-      asked = map string_bytes s.asked.items;
+      contents = file_contents s.files.items;
+      requests = map string_bytes s.requests.items;
       fails = s.fails.items;
       calls = s.calls;
       faults = s.faults;
@@ -38,13 +38,13 @@ impl Model for MemFiles {
 }
 
 impl MemFiles {
-    /// Files of these names with these contents. The loads that fail, counted from 0, are those of
-    /// `fails` and those of names that no file has, and no others. This takes no memory.
+    /// Files with these names and contents. A load fails where its number, counted from 0, is in
+    /// `fails`, and where no file has the name. This takes no memory.
     pub fn new(alloc: Global, files: Vec<(String, Vec<u8>)>, fails: Vec<u64>) -> MemFiles
-        requires names { HasDistinctNames (held_of files.items) }
+        requires names { HasDistinctNames (file_contents files.items) }
         requires fails { IsStrictlyIncreasing fails.items }
-        ensures held { result.held ≡ held_of files.items }
-        ensures asked { result.asked ≡ [] }
+        ensures contents { result.contents ≡ file_contents files.items }
+        ensures requests { result.requests ≡ [] }
         ensures fails { result.fails ≡ fails.items }
         ensures calls { result.calls ≡ 0 }
         ensures faults { result.faults ≡ 0 }
@@ -52,7 +52,7 @@ impl MemFiles {
         MemFiles {
             alloc,
             files,
-            asked: Vec::new(alloc),
+            requests: Vec::new(alloc),
             fails,
             calls: 0,
             faults: 0,
@@ -60,10 +60,10 @@ impl MemFiles {
     }
 }
 
-// The content of the file of that name.
+/// The content of the file of that name.
 fn find_content<'a>(files: &'a [(String, Vec<u8>)], name: &str) -> Option<&'a [u8]>
     ensures { option_map (λ content. content.now) result
-        ≡ content_of (held_of files.now) name.now }
+        ≡ content_of (file_contents files.now) name.now }
 {
     for file in files {
         if file.0.as_str() == name {
@@ -73,16 +73,16 @@ fn find_content<'a>(files: &'a [(String, Vec<u8>)], name: &str) -> Option<&'a [u
     None
 }
 
-// Adds a name that is asked for.
-fn ask(alloc: Global, asked: &mut Vec<String>, name: &str) -> Result<(), AllocError>
-    ensures ok { OnOk result (map string_bytes asked.new.items ≡ map string_bytes asked.old.items ++ name.now ∷ []) }
-    ensures err { OnErr result (asked.new.items ≡ asked.old.items) }
+/// Adds a name that is asked for.
+fn ask(alloc: Global, requests: &mut Vec<String>, name: &str) -> Result<(), AllocError>
+    ensures ok { OnOk result (map string_bytes requests.new.items ≡ map string_bytes requests.old.items ++ name.now ∷ []) }
+    ensures err { OnErr result (requests.new.items ≡ requests.old.items) }
 {
-    asked.push(String::from_str(alloc, name)?)?;
+    requests.push(String::from_str(alloc, name)?)?;
     Ok(())
 }
 
-// Fills a vector with the first bytes of a content.
+/// Replaces what a vector holds by the first bytes of a content.
 fn fill(into: &mut Vec<u8>, content: &[u8], max: u32) -> Result<(), AllocError>
     ensures { OnOk result (into.new.items ≡ take max content.now) }
 {
@@ -93,9 +93,9 @@ fn fill(into: &mut Vec<u8>, content: &[u8], max: u32) -> Result<(), AllocError>
 }
 
 impl Files for MemFiles {
-    ghost held = { λ s. Some s.held };
+    ghost contents = { λ s. Some s.contents };
 
-    ghost asked = { λ s. s.asked };
+    ghost requests = { λ s. s.requests };
 
     ghost faults = { λ s. s.faults };
 
@@ -104,14 +104,15 @@ impl Files for MemFiles {
         ensures after { IsAfterLoad self.old self.new name.now result }
 
         // The trait's.
-        ensures bytes { Loads (Some self.old.held) name.now max result into.new.items }
-        ensures held { Some self.new.held ≡ Some self.old.held }
-        ensures asked { Asks self.old.asked self.new.asked name.now result }
+        ensures count { result ≡ Load.Done → vec_len into.new ≤ max }
+        ensures bytes { Loads (Some self.old.contents) name.now max result into.new.items }
+        ensures contents { Some self.new.contents ≡ Some self.old.contents }
+        ensures requests { Asks self.old.requests self.new.requests name.now result }
         ensures cause { HasCause self.old.faults self.new.faults (result ≡ Load.Failed) }
     {
         let fails = self.fails.contains(&self.calls);
         self.calls = self.calls.saturating_add(1);
-        let Ok(()) = ask(self.alloc, &mut self.asked, name) else {
+        let Ok(()) = ask(self.alloc, &mut self.requests, name) else {
             return Load::Memory;
         };
         let found = find_content(&self.files, name);

@@ -9,7 +9,7 @@ use crate::sink::{Gave, Sink};
 use std::alloc::{AllocError, Global};
 use std::marker::Model;
 
-/// A sink that keeps the bytes that it is given.
+/// A sink in memory, which keeps the bytes that it is given.
 #[derive(Drop)]
 pub struct MemSink {
     places: Vec<u8>,
@@ -37,8 +37,8 @@ impl Model for MemSink {
 }
 
 impl MemSink {
-    /// A sink with room for that many bytes, all of which it takes at once. The calls that fail,
-    /// counted from 0, are those of `fails` and those that find no room left, and no others.
+    /// A sink with room for that many bytes, which it allocates at once. A call fails where its
+    /// number, counted from 0, is in `fails`, and where no room is left.
     pub fn new(alloc: Global, room: usize, fails: Vec<u64>) -> Result<MemSink, AllocError>
         requires { IsStrictlyIncreasing fails.items }
         ensures written { IfOk result (λ s. s.written ≡ []) }

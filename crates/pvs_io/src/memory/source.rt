@@ -8,7 +8,7 @@ ghost use Rattle.pvs_io.specs.Outside.{HasCause, IsTakeOf, Takes};
 use crate::source::{Source, Took};
 use std::marker::Model;
 
-/// A source of the bytes that it is made of.
+/// A source in memory, made of its bytes.
 #[derive(Drop)]
 pub struct MemSource {
     bytes: Vec<u8>,
@@ -37,8 +37,8 @@ impl Model for MemSource {
 }
 
 impl MemSource {
-    /// A source of these bytes that gives at most `piece` of them a call. The calls that fail,
-    /// counted from 0, are those of `fails`, and no others. This takes no memory.
+    /// A source of these bytes that gives at most `piece` of them a call. A call fails where its
+    /// number, counted from 0, is in `fails`. This takes no memory.
     pub fn new(bytes: Vec<u8>, piece: usize, fails: Vec<u64>) -> MemSource
         requires piece { 1 ≤ piece }
         requires fails { IsStrictlyIncreasing fails.items }

@@ -1,11 +1,11 @@
 use Rattle.std.proofs.Common.{◌≤◌, length}
-use Rattle.pvs_cli.specs.Passing.{IsGiven}
+use Rattle.pvs_cli.proofs.OutputLaws.{AddsUpTo}
 use Rattle.pvs_cli.proofs.output.give_all.Given as goal
 
 -- the bytes before the rest were given
 abbrev pub invariant-loop-rest : goal.invariant-loop-rest
 invariant-loop-rest g l = record {
-  given : IsGiven (g.K.Sink.written l.fn.sink) (g.K.Sink.written l.sink) l.bytes l.rest;
+  given : AddsUpTo (g.K.Sink.written l.fn.sink) (g.K.Sink.written l.sink) l.bytes l.rest;
   later : g.K.Sink.faults l.fn.sink ≤ g.K.Sink.faults l.sink;
 }
 

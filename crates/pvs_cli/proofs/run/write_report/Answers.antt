@@ -1,14 +1,13 @@
-use Rattle.std.proofs.Common.{◌∙◌, subst}
-use Rattle.pvs_cli.specs.Output.{AddsFront}
-use Rattle.pvs_cli.proofs.OutputLaws.{given_front, one_output}
+use Rattle.pvs_cli.proofs.OutputLaws.{report_cut, report_given, report_missing}
 use Rattle.pvs_cli.proofs.run.write_report.Goals as goal
 
-pub returns-then-give_all-clause-front : goal.returns-then-give_all-clause-front
-returns-then-give_all-clause-front g c bytes end r =
-    subst (AddsFront (g.K.Sink.written c.args.sink.now) (g.K.Sink.written c.give_all.new.sink)) (c.deref.ensures.value ∙ one_output c.one_answer.ensures c.args.text.now _ bytes c.in-Ok.report.status end c.in-Ok.ensures r)
-    (given_front _ _ c.give_all.result c.deref.result.now c.give_all.ensures.bytes)
+pub returns-in_default-clause-written : goal.returns-in_default-clause-written
+returns-in_default-clause-written g c = report_missing c.args.text.now (g.K.Sink.written c.args.sink.now)
 
-pub returns-clause-front : goal.returns-clause-front
-returns-clause-front g c bytes end r =
-    subst (AddsFront (g.K.Sink.written c.args.sink.now) (g.K.Sink.written c.give_all.new.sink)) (c.deref.ensures.value ∙ one_output c.one_answer.ensures c.args.text.now _ bytes c.in-Ok.report.status end c.in-Ok.ensures r)
-    (given_front _ _ c.give_all.result c.deref.result.now c.give_all.ensures.bytes)
+pub returns-then-give_all-clause-written : goal.returns-then-give_all-clause-written
+returns-then-give_all-clause-written g c =
+    report_given c.args.text.now _ _ c.in-Ok.report.bytes.items c.deref.result.now c.in-Ok.report.status c.in-Ok.ensures c.deref.ensures.value c.if-give_all.ensures.bytes
+
+pub returns-clause-written : goal.returns-clause-written
+returns-clause-written g c =
+    report_cut c.args.text.now _ _ c.in-Ok.report.bytes.items c.deref.result.now c.in-Ok.report.status c.in-Ok.ensures c.deref.ensures.value c.if-give_all.ensures.bytes
