@@ -1,0 +1,12 @@
+pub mod LimitsLaws
+pub mod BySizeLaws
+pub mod SizeLaws
+pub mod FormsLaws
+pub mod OutcomeLaws
+pub mod FormsSound
+pub mod CoerceSound
+pub mod Satisfaction
+pub mod TypingSound
+pub mod CoerceLaws
+pub mod UsesLaws
+pub mod Examples
