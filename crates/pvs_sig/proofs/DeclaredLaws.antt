@@ -11,7 +11,7 @@ use Rattle.pvs_subst.proofs.InstanceLaws.{free-instantiate}
 use Rattle.pvs_sig.specs.Signature.{Signature, FormalSig, Kind, TypeSig, ConstSig, VarSig, FormulaSig, kind_in, formals_in, formal_kind, unbound_kind, sort_by_type, instantiate_option, instantiate_kind}
 use Rattle.pvs_sig.specs.Development.{Development, theory_named, HasSort, AreDeclared, MatchFormals, IsTreeOver, IsOptionOver, IsKindOver, IsInstanceOver, IsRefOver, IsSignatureOver}
 
-none_stands : (z : Option Signature) → z ≡ None → IsSome z → ⊥
+pub none_stands : (z : Option Signature) → z ≡ None → IsSome z → ⊥
 none_stands None e k = cc
 none_stands (Some s) e k = cc
 

@@ -10,3 +10,5 @@ pub mod DistinctLaws
 pub mod InstancesLaws
 pub mod AdditionLaws
 pub mod SignatureAtLaws
+pub mod RankLaws
+mod Examples

@@ -24,7 +24,7 @@ in_split r (x ∷ xs) ys (inr h) = elim (in_split r xs ys h) [ inl a ↦ inl (in
 false_true : false ≡ true → ⊥
 false_true h = cc
 
-differs : (n k : ℕ) → eqb n k ≡ false → n ≡ k → ⊥
+pub differs : (n k : ℕ) → eqb n k ≡ false → n ≡ k → ⊥
 differs n k e h = false_true (sym e ∙ eq-eqb n k h)
 
 -- each reference only where it comes first
@@ -51,7 +51,7 @@ in_firsts r before (x ∷ xs) h n = go (λ k. in_firsts r before xs k n) (λ e k
     go f g false e (inl k) = inl k
     go f g false e (inr k) = later g (ref_eq r x) refl k
 
-below : (n k : ℕ) → n < suc k → (n ≡ k → ⊥) → n < k
+pub below : (n k : ℕ) → n < suc k → (n ≡ k → ⊥) → n < k
 below n k l h = omega (arith, l, h)
 
 formals_in : (q : Ref) (k : ℕ) → In q (formals_below k) → (n : ℕ) × (n < k) × (q ≡ Formal n)

@@ -8,3 +8,5 @@ pub mod Instances
 pub mod Laws
 pub mod SignatureAt
 pub mod Lookups
+pub mod Ranks
+pub mod LookupsOf

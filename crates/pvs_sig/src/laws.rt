@@ -4,6 +4,7 @@
 ghost use Rattle.pvs_sig.specs.Laws.{IsOverAll, AdditionKeeps, KindsAreOver, OrderIsFree, RemovalStands};
 ghost use Rattle.pvs_sig.specs.Laws.{ReachIsOver, ReachIsClosed, WholeIsScope, ScopeIsDistinct, ByInstances};
 ghost use Rattle.pvs_sig.specs.SignatureAt.{LaterStoresKeep};
+ghost use Rattle.pvs_sig.specs.LookupsOf.{LookupsAreOrdered, FindsKinds};
 
 /// Theories that stand: what a reference is, and what stays the same where a theory comes or goes.
 pub fn development_laws()
@@ -26,6 +27,15 @@ pub fn development_laws()
 /// What numbers of a store stand for, a later store leaves.
 pub fn stored_laws()
     ensures { LaterStoresKeep }
+{}
+
+/// What typing looks up in a development.
+pub fn lookup_laws()
+    // A defined name is larger than its body.
+    ensures ordered { LookupsAreOrdered }
+
+    // A reference whose actuals match the formals is found as what it is.
+    ensures found { FindsKinds }
 {}
 
 /// Scopes: what an entry sees, and what it may rest on.
