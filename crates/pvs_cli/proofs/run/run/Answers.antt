@@ -11,10 +11,10 @@ pub returns-then-is_check-clause-front : goal.returns-then-is_check-clause-front
 returns-then-is_check-clause-front g c = check_front _ _ _ _ (c.is_check.ensures.0 c.if-is_check.true) c.check.ensures.front
 
 pub returns-then-is_check-clause-sound : goal.returns-then-is_check-clause-sound
-returns-then-is_check-clause-sound g c = report_sound c.one_answer.ensures
+returns-then-is_check-clause-sound g c = report_sound c.one_answer.ensures.only
 
 pub returns-then-is_check-clause-truth : goal.returns-then-is_check-clause-truth
-returns-then-is_check-clause-truth g c check whole = truth_written c.one_answer.ensures _ _ _ c.check.result (c.check.ensures.all whole)
+returns-then-is_check-clause-truth g c check whole = truth_written c.one_answer.ensures.only _ _ _ c.check.result (c.check.ensures.all whole)
 
 pub returns-else-is_check-clause-truth : goal.returns-else-is_check-clause-truth
 returns-else-is_check-clause-truth g c check whole = let h : false ≡ true = c.if-is_check.ensures.1 check in cc
@@ -25,4 +25,4 @@ returns-else-is_check-clause-all g c whole =
     other_all _ _ _ _ c.write_usage.result (λ e. let h : false ≡ true = c.if-is_check.ensures.1 e in cc) end (c.write_usage.ensures.all whole)
 
 pub returns-else-is_check-clause-sound : goal.returns-else-is_check-clause-sound
-returns-else-is_check-clause-sound g c = report_sound c.one_answer.ensures
+returns-else-is_check-clause-sound g c = report_sound c.one_answer.ensures.only
