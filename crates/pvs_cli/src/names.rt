@@ -1,7 +1,7 @@
 //! Names by their bytes.
 
 ghost use Rattle.std.specs.Prelude.{◌≡◌, bytes_eq};
-ghost use Rattle.pvs_cli.specs.Names as spec;
+ghost use Rattle.pvs_syntax.specs.Words as spec;
 
 use pvs_lexer::spelling;
 use pvs_syntax::Word;
