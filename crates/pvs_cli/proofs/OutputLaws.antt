@@ -6,12 +6,10 @@ use Rattle.pvs_cli.specs.declared.input.Input.TheVariants as input
 use Rattle.pvs_cli.specs.declared.status.Status.{Status}
 use Rattle.pvs_cli.specs.declared.status.Status.TheVariants as status
 use Rattle.pvs_cli.specs.Lines.{Line, bytes_of}
-use Rattle.pvs_cli.specs.Reporting.{IsReport, OneAnswer, answer_lines, of_text, with_total}
+use Rattle.pvs_cli.specs.Reporting.{OneAnswer}
 use Rattle.pvs_cli.specs.Passing.{GivesAll, TakesText}
 use Rattle.pvs_cli.specs.Output.{AddsFront, IsCheck, IsOut, IsReportIn, IsReportOf, TakesAtMost, TakesUnit, WritesAll, WritesFront, WritesReport, WritesReportFront, is_whole, report, status_of, text_of, usage, usage_line}
-
-pub one_report : OneAnswer → (text : List ℕ) (ls ms : List Line) → IsReport text ls → IsReport text ms → ls ≡ ms
-one_report one text _ _ (of_text a h) (of_text b k) = ap (λ a. with_total (answer_lines text a)) (one text a b h k)
+use Rattle.pvs_cli.proofs.ReportOf.{one_report}
 
 pub one_output : OneAnswer → (text bytes others : List ℕ) (end other : Status) → IsReportOf text bytes end → IsReportOf text others other → bytes ≡ others
 one_output one text bytes others end other r q = r.2 ∙ ap bytes_of (one_report one text r.0 q.0 r.1 q.1) ∙ sym q.2
