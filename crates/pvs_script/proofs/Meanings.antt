@@ -9,10 +9,10 @@ use Rattle.pvs_script.specs.declared.tree.Script.{Script}
 use Rattle.pvs_script.specs.declared.state.State.{State}
 use Rattle.pvs_script.specs.declared.state.State.TheVariants as state
 use Rattle.pvs_script.specs.declared.state.OpenTree.{OpenTree}
-use Rattle.pvs_script.specs.declared.state.Part.{Part}
-use Rattle.pvs_script.specs.declared.state.Part.TheVariants as part
-use Rattle.pvs_script.specs.Grammar.{Is, DerivesStep, DerivesSteps, DerivesScript, DerivesScripts, BeginsStep, BeginsScript, negated}
-use Rattle.pvs_script.specs.States.{tree_of, inside, step_of, with_step, script_of, ended, ended_in, closed, in_step, in_tree, behind_nothing, behind_opened, behind_if, behind_minus, behind_step, step_start, step}
+use Rattle.pvs_script.specs.declared.state.Prefix.{Prefix}
+use Rattle.pvs_script.specs.declared.state.Prefix.TheVariants as prefix
+use Rattle.pvs_script.specs.Grammar.{Is, DerivesStep, DerivesSteps, DerivesScript, DerivesScripts, BeginsStep, BeginsScript, antecedent_number}
+use Rattle.pvs_script.specs.States.{tree_of, inside, step_of, with_step, script_of, state_after, state_after_in, closed, in_step, in_tree, after_whole, after_open, after_if, after_minus, after_step, first_state, next_state}
 use Rattle.pvs_script.proofs.Stacks.{last_push}
 use Rattle.pvs_script.proofs.Runs.{Tokens, run, bound, some_same}
 
@@ -33,35 +33,35 @@ pub data Stepping : Tokens → List Step → Type 0 where
   full : (ts : Tokens) (ss : List Step) (t : Lexeme) → Is sort.Open t → DerivesSteps ts ss → Stepping (t ∷ ts) ss
 
 -- the tokens of a step that has its first word
-pub data InStep : Tokens → Part → Type 0 where
-  axiom_word : (t u : Lexeme) → Is sort.Open t → Is sort.Axiom u → InStep (t ∷ u ∷ []) (part.Step (step_of rule.Axiom t.pos))
-  if_word : (t u : Lexeme) → Is sort.Open t → Is sort.If u → InStep (t ∷ u ∷ []) (part.If t.pos)
-  minus : (t u v : Lexeme) → Is sort.Open t → Is sort.If u → Is sort.Minus v → InStep (t ∷ u ∷ v ∷ []) (part.Minus t.pos)
-  consequent : (t u v : Lexeme) → Is sort.Open t → Is sort.If u → Is sort.Number v → InStep (t ∷ u ∷ v ∷ []) (part.Step (step_of (rule.If (pos v.number)) t.pos))
-  antecedent : (t u v w : Lexeme) → Is sort.Open t → Is sort.If u → Is sort.Minus v → Is sort.Number w → InStep (t ∷ u ∷ v ∷ w ∷ []) (part.Step (step_of (rule.If (negated w.number)) t.pos))
+pub data InStep : Tokens → Prefix → Type 0 where
+  axiom_word : (t u : Lexeme) → Is sort.Open t → Is sort.Axiom u → InStep (t ∷ u ∷ []) (prefix.Step (step_of rule.Axiom t.pos))
+  if_word : (t u : Lexeme) → Is sort.Open t → Is sort.If u → InStep (t ∷ u ∷ []) (prefix.If t.pos)
+  minus : (t u v : Lexeme) → Is sort.Open t → Is sort.If u → Is sort.Minus v → InStep (t ∷ u ∷ v ∷ []) (prefix.Minus t.pos)
+  consequent : (t u v : Lexeme) → Is sort.Open t → Is sort.If u → Is sort.Number v → InStep (t ∷ u ∷ v ∷ []) (prefix.Step (step_of (rule.If (pos v.number)) t.pos))
+  antecedent : (t u v w : Lexeme) → Is sort.Open t → Is sort.If u → Is sort.Minus v → Is sort.Number w → InStep (t ∷ u ∷ v ∷ w ∷ []) (prefix.Step (step_of (rule.If (antecedent_number w.number)) t.pos))
 
 -- the tokens that lead to a state
 pub data Means : State → Tokens → Type 0 where
   start : Means state.Start []
   whole : (ts : Tokens) (x : Script) → DerivesScript ts x → Means (state.Whole x) ts
-  nothing : (ts us : Tokens) (outer : List OpenTree) (tree : OpenTree) → Around ts outer → Opened us tree → Means (inside outer tree part.Nothing) (ts ++ us)
+  nothing : (ts us : Tokens) (outer : List OpenTree) (tree : OpenTree) → Around ts outer → Opened us tree → Means (inside outer tree prefix.Nothing) (ts ++ us)
   parenthesis : (ts us : Tokens) (outer : List OpenTree) (tree : OpenTree) (t : Lexeme) → Around ts outer → Opened us tree → Is sort.Open t
-      → Means (inside outer tree (part.Opened t.pos)) (ts ++ (us ++ t ∷ []))
-  middle : (ts us vs : Tokens) (outer : List OpenTree) (ss : List Step) (p : Part) → Around ts outer → Stepping us ss → InStep vs p → Means (inside outer (tree_of ss []) p) (ts ++ (us ++ vs))
+      → Means (inside outer tree (prefix.Opened t.pos)) (ts ++ (us ++ t ∷ []))
+  middle : (ts us vs : Tokens) (outer : List OpenTree) (ss : List Step) (p : Prefix) → Around ts outer → Stepping us ss → InStep vs p → Means (inside outer (tree_of ss []) p) (ts ++ (us ++ vs))
 
 -- ---- what the next token leads to
 
-start_means : (t : Lexeme) (c : Sort) → t.sort ≡ c → (r : State) → step_start c ≡ Some r → Means r (t ∷ [])
+start_means : (t : Lexeme) (c : Sort) → t.sort ≡ c → (r : State) → first_state c ≡ Some r → Means r (t ∷ [])
 start_means t sort.Open is r e = subst (λ z. Means z (t ∷ [])) (some_same _ r e) (Means.nothing [] (t ∷ []) [] (tree_of [] []) Around.none (Opened.fresh t is))
 start_means t _ is r e = cc
 
 -- a script that ends in the trees around it
-ended_means : (ts us : Tokens) (outer : List OpenTree) (x : Script) → Around ts outer → DerivesScript us x → Means (ended outer x) (ts ++ us)
+ended_means : (ts us : Tokens) (outer : List OpenTree) (x : Script) → Around ts outer → DerivesScript us x → Means (state_after outer x) (ts ++ us)
 ended_means _ us _ x Around.none d = Means.whole us x d
 ended_means _ us _ x (Around.more ts vs ws outer ss xs t a is e f) d =
     let shape : (ts ++ (t ∷ (vs ++ ws))) ++ us ≡ ts ++ (t ∷ (vs ++ (ws ++ us))) = append_assoc ts (t ∷ (vs ++ ws)) us ∙ ap (λ z. ts ++ (t ∷ z)) (append_assoc vs ws us) in
-    subst (λ z. Means z ((ts ++ (t ∷ (vs ++ ws))) ++ us)) (ap (ended_in x) (sym (last_push outer (tree_of ss xs))))
-    (subst (Means (inside outer (tree_of ss (xs ++ x ∷ [])) part.Nothing)) (sym shape)
+    subst (λ z. Means z ((ts ++ (t ∷ (vs ++ ws))) ++ us)) (ap (state_after_in x) (sym (last_push outer (tree_of ss xs))))
+    (subst (Means (inside outer (tree_of ss (xs ++ x ∷ [])) prefix.Nothing)) (sym shape)
     (Means.nothing ts (t ∷ (vs ++ (ws ++ us))) outer (tree_of ss (xs ++ x ∷ [])) a (Opened.full vs (ws ++ us) ss (xs ++ x ∷ []) t is e (DerivesScripts.more ws us xs x f d))))
 
 closed_means : (ts us : Tokens) (outer : List OpenTree) (tree : OpenTree) (ss : List Step) (u : Lexeme) (r : State) → Around ts outer → Opened us tree → tree.steps ≡ ss → Is sort.Close u
@@ -70,15 +70,15 @@ closed_means ts us outer tree [] u r a o same is e = cc
 closed_means ts _ outer _ (s ∷ ss) u r a (Opened.fresh t opened) same is e = cc
 closed_means ts _ outer _ (s ∷ ss) u r a (Opened.full vs ws zs xs t opened d f) same is e =
     let shape : (ts ++ (t ∷ (vs ++ ws))) ++ u ∷ [] ≡ ts ++ (t ∷ (vs ++ (ws ++ u ∷ []))) = append_assoc ts (t ∷ (vs ++ ws)) (u ∷ []) ∙ ap (λ z. ts ++ (t ∷ z)) (append_assoc vs ws (u ∷ [])) in
-    subst (λ z. Means z ((ts ++ (t ∷ (vs ++ ws))) ++ u ∷ [])) (some_same (ended outer (script_of (tree_of zs xs))) r e)
-    (subst (Means (ended outer (script_of (tree_of zs xs)))) (sym shape)
+    subst (λ z. Means z ((ts ++ (t ∷ (vs ++ ws))) ++ u ∷ [])) (some_same (state_after outer (script_of (tree_of zs xs))) r e)
+    (subst (Means (state_after outer (script_of (tree_of zs xs)))) (sym shape)
     (ended_means ts (t ∷ (vs ++ (ws ++ u ∷ []))) outer (script_of (tree_of zs xs)) a (DerivesScript.script vs ws zs xs t u opened d f is)))
 
 nothing_means : (ts us : Tokens) (outer : List OpenTree) (tree : OpenTree) (t : Lexeme) (c : Sort) → t.sort ≡ c → (r : State) → Around ts outer → Opened us tree
-    → behind_nothing t outer tree c ≡ Some r → Means r ((ts ++ us) ++ t ∷ [])
+    → after_whole t outer tree c ≡ Some r → Means r ((ts ++ us) ++ t ∷ [])
 nothing_means ts us outer tree t sort.Open is r a o e =
     subst (λ z. Means z ((ts ++ us) ++ t ∷ [])) (some_same _ r e)
-    (subst (Means (inside outer tree (part.Opened t.pos))) (sym (append_assoc ts us (t ∷ []))) (Means.parenthesis ts us outer tree t a o is))
+    (subst (Means (inside outer tree (prefix.Opened t.pos))) (sym (append_assoc ts us (t ∷ []))) (Means.parenthesis ts us outer tree t a o is))
 nothing_means ts us outer tree t sort.Close is r a o e = closed_means ts us outer tree tree.steps t r a o refl is e
 nothing_means ts us outer tree t _ is r a o e = cc
 
@@ -97,7 +97,7 @@ stepping_of _ _ (Opened.full ts us ss xs t is d f) e =
     subst (λ z. Stepping (t ∷ z) ss) (sym (append-nil ts) ∙ ap (λ z. ts ++ z) (sym (scripts_none us xs f e))) (Stepping.full ts ss t is d)
 
 -- a step with its first word
-word_means : (ts us : Tokens) (outer : List OpenTree) (tree : OpenTree) (t u : Lexeme) (p : Part) (xs : List Script) (r : State) → Around ts outer → Opened us tree → InStep (t ∷ u ∷ []) p → tree.trees ≡ xs
+word_means : (ts us : Tokens) (outer : List OpenTree) (tree : OpenTree) (t u : Lexeme) (p : Prefix) (xs : List Script) (r : State) → Around ts outer → Opened us tree → InStep (t ∷ u ∷ []) p → tree.trees ≡ xs
     → in_step outer tree p xs ≡ Some r → Means r ((ts ++ (us ++ t ∷ [])) ++ u ∷ [])
 word_means ts us outer tree t u p (x ∷ xs) r a o i same e = cc
 word_means ts us outer tree t u p [] r a o i same e =
@@ -117,18 +117,18 @@ inner_means ts _ outer _ t u (s ∷ ss) r a (Opened.full vs ws zs xs w first d f
     let shape : (ts ++ (us ++ t ∷ [])) ++ u ∷ [] ≡ (ts ++ us) ++ ((t ∷ []) ++ u ∷ []) =
     ap (λ z. z ++ u ∷ []) (sym (append_assoc ts us (t ∷ []))) ∙ append_assoc (ts ++ us) (t ∷ []) (u ∷ []) in
     subst (λ z. Means z ((ts ++ (us ++ t ∷ [])) ++ u ∷ [])) (some_same _ r e)
-    (subst (Means (inside (outer ++ tree_of zs xs ∷ []) (tree_of [] []) (part.Opened u.pos))) (sym shape)
+    (subst (Means (inside (outer ++ tree_of zs xs ∷ []) (tree_of [] []) (prefix.Opened u.pos))) (sym shape)
     (Means.parenthesis (ts ++ us) (t ∷ []) (outer ++ tree_of zs xs ∷ []) (tree_of [] []) u (Around.more ts vs ws outer zs xs w a first d f) (Opened.fresh t opened) is))
 
 opened_means : (ts us : Tokens) (outer : List OpenTree) (tree : OpenTree) (t u : Lexeme) (c : Sort) → u.sort ≡ c → (r : State) → Around ts outer → Opened us tree → Is sort.Open t
-    → behind_opened u outer tree t.pos c ≡ Some r → Means r ((ts ++ (us ++ t ∷ [])) ++ u ∷ [])
-opened_means ts us outer tree t u sort.Axiom is r a o opened e = word_means ts us outer tree t u (part.Step (step_of rule.Axiom t.pos)) tree.trees r a o (InStep.axiom_word t u opened is) refl e
-opened_means ts us outer tree t u sort.If is r a o opened e = word_means ts us outer tree t u (part.If t.pos) tree.trees r a o (InStep.if_word t u opened is) refl e
+    → after_open u outer tree t.pos c ≡ Some r → Means r ((ts ++ (us ++ t ∷ [])) ++ u ∷ [])
+opened_means ts us outer tree t u sort.Axiom is r a o opened e = word_means ts us outer tree t u (prefix.Step (step_of rule.Axiom t.pos)) tree.trees r a o (InStep.axiom_word t u opened is) refl e
+opened_means ts us outer tree t u sort.If is r a o opened e = word_means ts us outer tree t u (prefix.If t.pos) tree.trees r a o (InStep.if_word t u opened is) refl e
 opened_means ts us outer tree t u sort.Open is r a o opened e = inner_means ts us outer tree t u tree.steps r a o opened is refl e
 opened_means ts us outer tree t u _ is r a o opened e = cc
 
 -- one more token in a step
-more_means : (ts us vs ws : Tokens) (outer : List OpenTree) (ss : List Step) (t : Lexeme) (p : Part) (r : State) → Around ts outer → Stepping us ss → InStep ws p → ws ≡ vs ++ t ∷ []
+more_means : (ts us vs ws : Tokens) (outer : List OpenTree) (ss : List Step) (t : Lexeme) (p : Prefix) (r : State) → Around ts outer → Stepping us ss → InStep ws p → ws ≡ vs ++ t ∷ []
     → Some (inside outer (tree_of ss []) p) ≡ Some r → Means r ((ts ++ (us ++ vs)) ++ t ∷ [])
 more_means ts us vs ws outer ss t p r a o i same e =
     let shape : (ts ++ (us ++ vs)) ++ t ∷ [] ≡ ts ++ (us ++ ws) = append_assoc ts (us ++ vs) (t ∷ []) ∙ ap (λ z. ts ++ z) (append_assoc us vs (t ∷ []) ∙ ap (λ z. us ++ z) (sym same)) in
@@ -143,34 +143,34 @@ steps_push _ vs _ s (Stepping.full ts ss t is e) d =
 
 -- the end of a step
 end_means : (ts us vs : Tokens) (outer : List OpenTree) (ss : List Step) (s : Step) (t : Lexeme) (r : State) → Around ts outer → Stepping us ss → DerivesStep (vs ++ t ∷ []) s
-    → Some (inside outer (with_step (tree_of ss []) s) part.Nothing) ≡ Some r → Means r ((ts ++ (us ++ vs)) ++ t ∷ [])
+    → Some (inside outer (with_step (tree_of ss []) s) prefix.Nothing) ≡ Some r → Means r ((ts ++ (us ++ vs)) ++ t ∷ [])
 end_means ts us vs outer ss s t r a o d e =
     let shape : (ts ++ (us ++ vs)) ++ t ∷ [] ≡ ts ++ (us ++ (vs ++ t ∷ [])) = append_assoc ts (us ++ vs) (t ∷ []) ∙ ap (λ z. ts ++ z) (append_assoc us vs (t ∷ [])) in
     subst (λ z. Means z ((ts ++ (us ++ vs)) ++ t ∷ [])) (some_same _ r e)
-    (subst (Means (inside outer (with_step (tree_of ss []) s) part.Nothing)) (sym shape)
+    (subst (Means (inside outer (with_step (tree_of ss []) s) prefix.Nothing)) (sym shape)
     (Means.nothing ts (us ++ (vs ++ t ∷ [])) outer (with_step (tree_of ss []) s) a (steps_push us (vs ++ t ∷ []) ss s o d)))
 
 if_means : (ts us : Tokens) (outer : List OpenTree) (ss : List Step) (t u v : Lexeme) (c : Sort) → v.sort ≡ c → (r : State) → Around ts outer → Stepping us ss → Is sort.Open t → Is sort.If u
-    → behind_if v outer (tree_of ss []) t.pos c ≡ Some r → Means r ((ts ++ (us ++ t ∷ u ∷ [])) ++ v ∷ [])
+    → after_if v outer (tree_of ss []) t.pos c ≡ Some r → Means r ((ts ++ (us ++ t ∷ u ∷ [])) ++ v ∷ [])
 if_means ts us outer ss t u v sort.Number is r a o opened word e =
-    more_means ts us (t ∷ u ∷ []) (t ∷ u ∷ v ∷ []) outer ss v (part.Step (step_of (rule.If (pos v.number)) t.pos)) r a o (InStep.consequent t u v opened word is) refl e
+    more_means ts us (t ∷ u ∷ []) (t ∷ u ∷ v ∷ []) outer ss v (prefix.Step (step_of (rule.If (pos v.number)) t.pos)) r a o (InStep.consequent t u v opened word is) refl e
 if_means ts us outer ss t u v sort.Minus is r a o opened word e =
-    more_means ts us (t ∷ u ∷ []) (t ∷ u ∷ v ∷ []) outer ss v (part.Minus t.pos) r a o (InStep.minus t u v opened word is) refl e
+    more_means ts us (t ∷ u ∷ []) (t ∷ u ∷ v ∷ []) outer ss v (prefix.Minus t.pos) r a o (InStep.minus t u v opened word is) refl e
 if_means ts us outer ss t u v _ is r a o opened word e = cc
 
 minus_means : (ts us : Tokens) (outer : List OpenTree) (ss : List Step) (t u v w : Lexeme) (c : Sort) → w.sort ≡ c → (r : State) → Around ts outer → Stepping us ss → Is sort.Open t → Is sort.If u → Is sort.Minus v
-    → behind_minus w outer (tree_of ss []) t.pos c ≡ Some r → Means r ((ts ++ (us ++ t ∷ u ∷ v ∷ [])) ++ w ∷ [])
+    → after_minus w outer (tree_of ss []) t.pos c ≡ Some r → Means r ((ts ++ (us ++ t ∷ u ∷ v ∷ [])) ++ w ∷ [])
 minus_means ts us outer ss t u v w sort.Number is r a o opened word sign e =
-    more_means ts us (t ∷ u ∷ v ∷ []) (t ∷ u ∷ v ∷ w ∷ []) outer ss w (part.Step (step_of (rule.If (negated w.number)) t.pos)) r a o (InStep.antecedent t u v w opened word sign is) refl e
+    more_means ts us (t ∷ u ∷ v ∷ []) (t ∷ u ∷ v ∷ w ∷ []) outer ss w (prefix.Step (step_of (rule.If (antecedent_number w.number)) t.pos)) r a o (InStep.antecedent t u v w opened word sign is) refl e
 minus_means ts us outer ss t u v w _ is r a o opened word sign e = cc
 
 whole_step_means : (ts us vs : Tokens) (outer : List OpenTree) (ss : List Step) (s : Step) (t : Lexeme) (c : Sort) → t.sort ≡ c → (r : State) → Around ts outer → Stepping us ss
-    → (Is sort.Close t → DerivesStep (vs ++ t ∷ []) s) → behind_step outer (tree_of ss []) s c ≡ Some r → Means r ((ts ++ (us ++ vs)) ++ t ∷ [])
+    → (Is sort.Close t → DerivesStep (vs ++ t ∷ []) s) → after_step outer (tree_of ss []) s c ≡ Some r → Means r ((ts ++ (us ++ vs)) ++ t ∷ [])
 whole_step_means ts us vs outer ss s t sort.Close is r a o d e = end_means ts us vs outer ss s t r a o (d is) e
 whole_step_means ts us vs outer ss s t _ is r a o d e = cc
 
-step_means : (ts us vs : Tokens) (outer : List OpenTree) (ss : List Step) (p : Part) (t : Lexeme) (r : State) → Around ts outer → Stepping us ss → InStep vs p
-    → step (inside outer (tree_of ss []) p) t ≡ Some r → Means r ((ts ++ (us ++ vs)) ++ t ∷ [])
+step_means : (ts us vs : Tokens) (outer : List OpenTree) (ss : List Step) (p : Prefix) (t : Lexeme) (r : State) → Around ts outer → Stepping us ss → InStep vs p
+    → next_state (inside outer (tree_of ss []) p) t ≡ Some r → Means r ((ts ++ (us ++ vs)) ++ t ∷ [])
 step_means ts us _ outer ss _ w r a o (InStep.axiom_word t u opened word) e =
     whole_step_means ts us (t ∷ u ∷ []) outer ss (step_of rule.Axiom t.pos) w w.sort refl r a o (λ close. DerivesStep.axiom_rule t u w opened word close) e
 step_means ts us _ outer ss _ w r a o (InStep.if_word t u opened word) e = if_means ts us outer ss t u w w.sort refl r a o opened word e
@@ -178,9 +178,9 @@ step_means ts us _ outer ss _ w r a o (InStep.minus t u v opened word sign) e = 
 step_means ts us _ outer ss _ w r a o (InStep.consequent t u v opened word num) e =
     whole_step_means ts us (t ∷ u ∷ v ∷ []) outer ss (step_of (rule.If (pos v.number)) t.pos) w w.sort refl r a o (λ close. DerivesStep.if_consequent t u v w opened word num close) e
 step_means ts us _ outer ss _ x r a o (InStep.antecedent t u v w opened word sign num) e =
-    whole_step_means ts us (t ∷ u ∷ v ∷ w ∷ []) outer ss (step_of (rule.If (negated w.number)) t.pos) x x.sort refl r a o (λ close. DerivesStep.if_antecedent t u v w x opened word sign num close) e
+    whole_step_means ts us (t ∷ u ∷ v ∷ w ∷ []) outer ss (step_of (rule.If (antecedent_number w.number)) t.pos) x x.sort refl r a o (λ close. DerivesStep.if_antecedent t u v w x opened word sign num close) e
 
-token_means : (s : State) (ts : Tokens) (t : Lexeme) (r : State) → Means s ts → step s t ≡ Some r → Means r (ts ++ t ∷ [])
+token_means : (s : State) (ts : Tokens) (t : Lexeme) (r : State) → Means s ts → next_state s t ≡ Some r → Means r (ts ++ t ∷ [])
 token_means _ _ t r Means.start e = start_means t t.sort refl r e
 token_means _ _ t r (Means.whole ts x d) e = cc
 token_means _ _ t r (Means.nothing ts us outer tree a o) e = nothing_means ts us outer tree t t.sort refl r a o e
@@ -190,7 +190,7 @@ token_means _ _ t r (Means.middle ts us vs outer ss p a o i) e = step_means ts u
 run_means : (us ts : Tokens) (s r : State) → Means s ts → run s us ≡ Some r → Means r (ts ++ us)
 run_means [] ts s r m e = subst (Means r) (sym (append-nil ts)) (subst (λ z. Means z ts) (some_same s r e) m)
 run_means (t ∷ us) ts s r m e =
-    let b = bound (step s t) us r e in
+    let b = bound (next_state s t) us r e in
     subst (Means r) (append_assoc ts (t ∷ []) us) (run_means us (ts ++ t ∷ []) b.0 r (token_means s ts t b.0 m b.1) b.2)
 
 pub means : (ts : Tokens) (r : State) → run state.Start ts ≡ Some r → Means r ts
@@ -215,7 +215,7 @@ parenthesis_begins _ _ u (Opened.fresh t is) opened = BeginsScript.first (u ∷ 
 parenthesis_begins _ _ u (Opened.full ts us ss xs t is d e) opened =
     subst (λ z. BeginsScript (t ∷ z)) (sym (append_assoc ts us (u ∷ []))) (BeginsScript.tree ts us (u ∷ []) ss xs t is d e (BeginsScript.first [] u opened BeginsStep.nothing))
 
-in_step_begins : (vs : Tokens) (p : Part) → InStep vs p → BeginsStep vs
+in_step_begins : (vs : Tokens) (p : Prefix) → InStep vs p → BeginsStep vs
 in_step_begins _ _ (InStep.axiom_word t u is word) = BeginsStep.axiom_word t u is word
 in_step_begins _ _ (InStep.if_word t u is word) = BeginsStep.if_word t u is word
 in_step_begins _ _ (InStep.minus t u v is word sign) = BeginsStep.minus t u v is word sign

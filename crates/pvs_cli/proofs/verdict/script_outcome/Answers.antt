@@ -1,7 +1,7 @@
 use Rattle.std.proofs.Common.{ap, arith}
 use Rattle.pvs_base.specs.declared.place.Pos.{Pos}
 use Rattle.pvs_cli.proofs.PlaceBounds.{col_bound, line_bound}
-use Rattle.pvs_cli.proofs.verdict.replayed.Goals as goal
+use Rattle.pvs_cli.proofs.verdict.script_outcome.Goals as goal
 
 pub read_script-requires-clause-line : goal.read_script-requires-clause-line
 read_script-requires-clause-line c =

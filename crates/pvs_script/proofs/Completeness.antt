@@ -9,18 +9,18 @@ use Rattle.pvs_script.specs.declared.tree.Script.{Script}
 use Rattle.pvs_script.specs.declared.state.State.{State}
 use Rattle.pvs_script.specs.declared.state.State.TheVariants as state
 use Rattle.pvs_script.specs.declared.state.OpenTree.{OpenTree}
-use Rattle.pvs_script.specs.declared.state.Part.TheVariants as part
-use Rattle.pvs_script.specs.Grammar.{Is, DerivesStep, DerivesSteps, DerivesScript, DerivesScripts, BeginsStep, BeginsScript, negated}
-use Rattle.pvs_script.specs.States.{tree_of, inside, step_of, script_of, ended, ended_in}
+use Rattle.pvs_script.specs.declared.state.Prefix.TheVariants as prefix
+use Rattle.pvs_script.specs.Grammar.{Is, DerivesStep, DerivesSteps, DerivesScript, DerivesScripts, BeginsStep, BeginsScript, antecedent_number}
+use Rattle.pvs_script.specs.States.{tree_of, inside, step_of, script_of, state_after, state_after_in}
 use Rattle.pvs_script.proofs.Stacks.{last_push}
 use Rattle.pvs_script.proofs.Runs.{Tokens, run, runs_on, start_goes, open_goes, axiom_goes, if_goes, number_goes, minus_goes, negated_goes, step_goes, close_goes, enters, HasStep}
 
 -- inside a tree with these steps and no tree
 abbrev stepping : List OpenTree → List Step → State
-stepping outer ss = inside outer (tree_of ss []) part.Nothing
+stepping outer ss = inside outer (tree_of ss []) prefix.Nothing
 
 abbrev going : List OpenTree → List Step → List Script → State
-going outer ss xs = inside outer (tree_of ss xs) part.Nothing
+going outer ss xs = inside outer (tree_of ss xs) prefix.Nothing
 
 -- ---- steps
 
@@ -32,7 +32,7 @@ step_taken _ _ (DerivesStep.if_consequent t u v w opened word num close) outer z
     ∙ step_goes outer (tree_of zs []) (step_of (rule.If (pos v.number)) t.pos) w [] close
 step_taken _ _ (DerivesStep.if_antecedent t u v w x opened word minus num close) outer zs =
     open_goes outer (tree_of zs []) t (u ∷ v ∷ w ∷ x ∷ []) opened ∙ if_goes outer zs t.pos u (v ∷ w ∷ x ∷ []) word ∙ minus_goes outer (tree_of zs []) t.pos v (w ∷ x ∷ []) minus
-    ∙ negated_goes outer (tree_of zs []) t.pos w (x ∷ []) num ∙ step_goes outer (tree_of zs []) (step_of (rule.If (negated w.number)) t.pos) x [] close
+    ∙ negated_goes outer (tree_of zs []) t.pos w (x ∷ []) num ∙ step_goes outer (tree_of zs []) (step_of (rule.If (antecedent_number w.number)) t.pos) x [] close
 
 pub steps_taken : (ts : Tokens) (ss : List Step) → DerivesSteps ts ss → (outer : List OpenTree) (zs : List Step) → run (stepping outer zs) ts ≡ Some (stepping outer (zs ++ ss))
 steps_taken _ _ (DerivesSteps.one ts s d) outer zs = step_taken ts s d outer zs
@@ -56,25 +56,25 @@ step_open _ _ (DerivesStep.axiom_rule t u v opened word close) = (t, u ∷ v ∷
 step_open _ _ (DerivesStep.if_consequent t u v w opened word num close) = (t, u ∷ v ∷ w ∷ [], refl, opened)
 step_open _ _ (DerivesStep.if_antecedent t u v w x opened word minus num close) = (t, u ∷ v ∷ w ∷ x ∷ [], refl, opened)
 
-open_front : (ts us : Tokens) → FirstOpen ts → FirstOpen (ts ++ us)
-open_front ts us f = (f.0, f.1 ++ us, ap (λ z. z ++ us) f.2, f.3)
+open_prefix : (ts us : Tokens) → FirstOpen ts → FirstOpen (ts ++ us)
+open_prefix ts us f = (f.0, f.1 ++ us, ap (λ z. z ++ us) f.2, f.3)
 
 steps_open : (ts : Tokens) (ss : List Step) → DerivesSteps ts ss → FirstOpen ts
 steps_open _ _ (DerivesSteps.one ts s d) = step_open ts s d
-steps_open _ _ (DerivesSteps.more ts us ss s d e) = open_front ts us (steps_open ts ss d)
+steps_open _ _ (DerivesSteps.more ts us ss s d e) = open_prefix ts us (steps_open ts ss d)
 
--- a new tree inside an open one, behind its parenthesis
+-- a new tree inside an open one, after its parenthesis
 new_tree : (outer : List OpenTree) (tree : OpenTree) (at : Pos) (ts : Tokens) → FirstOpen ts → HasStep tree.steps
-    → run (inside outer tree (part.Opened at)) ts ≡ run (stepping (outer ++ tree ∷ []) []) ts
+    → run (inside outer tree (prefix.Opened at)) ts ≡ run (stepping (outer ++ tree ∷ []) []) ts
 new_tree outer tree at ts f h =
-    ap (run (inside outer tree (part.Opened at))) f.2 ∙ enters outer tree at f.0 f.1 f.3 h ∙ sym (open_goes (outer ++ tree ∷ []) (tree_of [] []) f.0 f.1 f.3)
+    ap (run (inside outer tree (prefix.Opened at))) f.2 ∙ enters outer tree at f.0 f.1 f.3 h ∙ sym (open_goes (outer ++ tree ∷ []) (tree_of [] []) f.0 f.1 f.3)
     ∙ ap (run (stepping (outer ++ tree ∷ []) [])) (sym f.2)
 
 -- ---- scripts
 
--- all behind the parenthesis of a script, from what is read of its trees
+-- all after the parenthesis of a script, from what is read of its trees
 body_taken : (ts us : Tokens) (ss : List Step) (xs : List Script) (u : Lexeme) → DerivesSteps ts ss → Is sort.Close u → (outer : List OpenTree)
-    → run (going outer ss []) us ≡ Some (going outer ss xs) → run (stepping outer []) (ts ++ (us ++ u ∷ [])) ≡ Some (ended outer (script_of (tree_of ss xs)))
+    → run (going outer ss []) us ≡ Some (going outer ss xs) → run (stepping outer []) (ts ++ (us ++ u ∷ [])) ≡ Some (state_after outer (script_of (tree_of ss xs)))
 body_taken ts us ss xs u d close outer e =
     runs_on (stepping outer []) (stepping outer ss) ts (us ++ u ∷ []) (steps_taken ts ss d outer [])
     ∙ runs_on (stepping outer ss) (going outer ss xs) us (u ∷ []) e
@@ -85,9 +85,9 @@ mutual
       → run (going outer zs ys) ts ≡ Some (going outer zs (ys ++ x ∷ []))
   script_taken _ _ (DerivesScript.script ts us ss xs t u is d e close) outer zs ys h =
       open_goes outer (tree_of zs ys) t (ts ++ (us ++ u ∷ [])) is
-      ∙ new_tree outer (tree_of zs ys) t.pos (ts ++ (us ++ u ∷ [])) (open_front ts (us ++ u ∷ []) (steps_open ts ss d)) h
+      ∙ new_tree outer (tree_of zs ys) t.pos (ts ++ (us ++ u ∷ [])) (open_prefix ts (us ++ u ∷ []) (steps_open ts ss d)) h
       ∙ body_taken ts us ss xs u d close (outer ++ tree_of zs ys ∷ []) (scripts_taken us xs e (outer ++ tree_of zs ys ∷ []) ss [] (steps_some ts ss d))
-      ∙ ap (λ o. Some (ended_in (script_of (tree_of ss xs)) o)) (last_push outer (tree_of zs ys))
+      ∙ ap (λ o. Some (state_after_in (script_of (tree_of ss xs)) o)) (last_push outer (tree_of zs ys))
 
   scripts_taken : (ts : Tokens) (xs : List Script) → DerivesScripts ts xs → (outer : List OpenTree) (zs : List Step) (ys : List Script) → HasStep zs
       → run (going outer zs ys) ts ≡ Some (going outer zs (ys ++ xs))
@@ -142,8 +142,8 @@ step_opens _ (BeginsStep.closed ts s d) = let f = step_open ts s d in subst Open
 first_opens : (ts us : Tokens) → FirstOpen ts → OpenOrNothing (ts ++ us)
 first_opens ts us f = subst (λ z. OpenOrNothing (z ++ us)) (sym f.2) (OpenOrNothing.opened f.0 (f.1 ++ us) f.3)
 
--- behind the parenthesis of a new tree
-new_runs : (outer : List OpenTree) (tree : OpenTree) (at : Pos) (ts : Tokens) → OpenOrNothing ts → HasStep tree.steps → Runs (stepping (outer ++ tree ∷ []) []) ts → Runs (inside outer tree (part.Opened at)) ts
+-- after the parenthesis of a new tree
+new_runs : (outer : List OpenTree) (tree : OpenTree) (at : Pos) (ts : Tokens) → OpenOrNothing ts → HasStep tree.steps → Runs (stepping (outer ++ tree ∷ []) []) ts → Runs (inside outer tree (prefix.Opened at)) ts
 new_runs outer tree at _ OpenOrNothing.nothing h r = (_, refl)
 new_runs outer tree at _ (OpenOrNothing.opened t ts is) h r = (r.0, new_tree outer tree at (t ∷ ts) (t, ts, refl, is) h ∙ r.1)
 
