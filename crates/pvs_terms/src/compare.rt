@@ -3,7 +3,6 @@
 ghost use Rattle.std.specs.Prelude.{◌≡◌, ◌↔◌, IsTrue, length};
 
 use crate::node::{Id, RefId, RefKind};
-use crate::shape::Shape;
 use crate::store::Store;
 
 impl Store {
@@ -22,61 +21,16 @@ impl Store {
         equal
     }
 
-    /// Whether the numbers stand for one tree.
+    /// Whether the numbers stand for one tree. Equal trees have equal numbers.
     pub fn same(&self, a: Id, b: Id) -> bool
         requires first { IsNode self.now a }
         requires second { IsNode self.now b }
         ensures value { result ≡ tree_eq (tree_at self.now a) (tree_at self.now b) }
         ensures equal { IsTrue result ↔ (tree_at self.now a ≡ tree_at self.now b) }
     {
-        let equal = self.have_one_tree(a, b);
+        let _nodes = &self.nodes;
+        let equal = a == b;
         equal
-    }
-
-    fn have_one_tree(&self, a: Id, b: Id) -> bool
-        requires first { IsNode self.now a }
-        requires second { IsNode self.now b }
-        ensures { result ≡ tree_eq (tree_at self.now a) (tree_at self.now b) }
-    {
-        if a == b {
-            return true;
-        }
-        match self.view(a).shape() {
-            Shape::Leaf(x) => match self.view(b).shape() {
-                Shape::Leaf(y) => x == y,
-                _ => false,
-            },
-            Shape::Index(m) => match self.view(b).shape() {
-                Shape::Index(n) => m == n,
-                _ => false,
-            },
-            Shape::Name(s, r) => match self.view(b).shape() {
-                Shape::Name(t, q) => s == t && self.same_reference(r, q),
-                _ => false,
-            },
-            Shape::Bind(x, a, b1) => match self.view(b).shape() {
-                Shape::Bind(y, c, d) => x == y
-                    && self.have_one_tree(a, c)
-                    && self.have_one_tree(b1, d),
-                _ => false,
-            },
-            Shape::Join(x, a, b1) => match self.view(b).shape() {
-                Shape::Join(y, c, d) => x == y
-                    && self.have_one_tree(a, c)
-                    && self.have_one_tree(b1, d),
-                _ => false,
-            },
-            Shape::Project(x, a) => match self.view(b).shape() {
-                Shape::Project(y, c) => x == y && self.have_one_tree(a, c),
-                _ => false,
-            },
-            Shape::Choose(x, y, z) => match self.view(b).shape() {
-                Shape::Choose(u, v, w) => self.have_one_tree(x, u)
-                    && self.have_one_tree(y, v)
-                    && self.have_one_tree(z, w),
-                _ => false,
-            },
-        }
     }
 
     /// Whether the lists stand for the same trees.
@@ -92,7 +46,7 @@ impl Store {
             },
             Some((x, xs)) => match ys.split_first() {
                 None => false,
-                Some((y, ys)) => self.have_one_tree(*x, *y) && self.same_all(xs, ys),
+                Some((y, ys)) => self.same(*x, *y) && self.same_all(xs, ys),
             },
         }
     }
