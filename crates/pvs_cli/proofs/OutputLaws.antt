@@ -5,7 +5,7 @@ use Rattle.std.proofs.lemmas.List.{length-take, take-append-drop}
 use Rattle.pvs_cli.specs.declared.input.Input.TheVariants as input
 use Rattle.pvs_cli.specs.declared.status.Status.{Status}
 use Rattle.pvs_cli.specs.declared.status.Status.TheVariants as status
-use Rattle.pvs_cli.specs.Lines.{Line, bytes_of}
+use Rattle.pvs_cli.specs.Lines.{bytes_of}
 use Rattle.pvs_cli.specs.Reporting.{OneAnswer}
 use Rattle.pvs_cli.specs.Passing.{GivesAll, TakesText}
 use Rattle.pvs_cli.specs.Output.{AddsFront, IsCheck, IsOut, IsReportIn, IsReportOf, TakesAtMost, TakesUnit, WritesAll, WritesFront, WritesReport, WritesReportFront, is_whole, report, status_of, text_of, usage, usage_line}
