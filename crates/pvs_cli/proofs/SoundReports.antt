@@ -1,5 +1,5 @@
 -- A report is sound: what its lines say is complete is TRUE.
-use Rattle.std.proofs.Common.{◌≡◌, ◌∙◌, refl, sym, ap, subst, ℕ, Bool, true, false, if◌then◌else◌, ◌⊎◌, inl, inr, List, [], ◌∷◌, ◌++◌, slice_get, Contains, Some, Ok}
+use Rattle.std.proofs.Common.{◌≡◌, ◌∙◌, refl, sym, ap, subst, ℕ, Bool, true, false, if◌then◌else◌, ◌⊎◌, inl, inr, List, [], ◌∷◌, slice_get, Contains, Some, Ok}
 use Rattle.std.specs.List.{list_any}
 use Rattle.pvs_syntax.specs.declared.unit.Item.{Item}
 use Rattle.pvs_syntax.specs.declared.unit.FormulaWord.TheVariants as formula_word
@@ -12,7 +12,7 @@ use Rattle.pvs_cli.specs.Replaying.{Outcome, Proved, Open, Refused}
 use Rattle.pvs_cli.specs.Verdicts.{Scripts}
 use Rattle.pvs_cli.specs.Outcomes.{PartOutcome, TheoryAccepted, TheoryRefused, ProofOutcome, LemmaStatus, Complete, Unproved, outcomes_of, proves, statuses_of}
 use Rattle.pvs_cli.specs.Lines.{Line, FormulaLine, CompleteWord, TotalLine, totals_of}
-use Rattle.pvs_cli.specs.Reporting.{IsReport, OneAnswer, answer_lines, entry_lines, formula_lines, lines_of, of_text, outcome_lines, part_lines, proof_line, status_word, unit_lines, with_total}
+use Rattle.pvs_cli.specs.Reporting.{IsReport, OneAnswer, answer_lines, entry_lines, lines_of, of_text, part_lines, proof_line, status_word, unit_lines, with_total}
 use Rattle.pvs_cli.specs.Soundness.{IsSound}
 use Rattle.pvs_cli.proofs.Members.{Has, has_append, has_contained, has_flat_map}
 use Rattle.pvs_cli.proofs.SoundVerdicts.{IsValid, proved_sound}

@@ -1,6 +1,6 @@
 //! What the next token of a script leads to.
 
-ghost use Rattle.std.specs.Prelude.{◌≡◌, IfOk, List, []};
+ghost use Rattle.std.specs.Prelude.{◌≡◌, IfOk, []};
 ghost use Rattle.pvs_script.specs.Grammar.{antecedent_number};
 ghost use Rattle.pvs_script.specs.States as spec;
 
