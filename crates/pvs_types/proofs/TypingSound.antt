@@ -28,6 +28,7 @@ use Rattle.pvs_types.specs.Coerce.{lift_one, coerce}
 use Rattle.pvs_types.specs.Symbols.{symbols}
 use Rattle.pvs_types.specs.Typing.{Typing, Components, negation, variable_type, term_typing, type_typing, leaf_typing, variable_infer, constant_infer, name_well_formed, name_typing, predicate_check, dependent_well_formed, lambda_infer, bind_typing, function_of, tuple_of, is_forall, apply_infer, tuple_infer, equal_infer, join_infer, project_infer, common_type, if_infer, if_check, if_typing, typing}
 use Rattle.pvs_types.specs.Soundness.{IsSatisfaction, IsTrueCondition, Provides, IsOfType, HasType, IsModelOf, Converts, IsDefined, IsPredicate, IsSoundTyping}
+use Rattle.pvs_types.proofs.ProperTermLaws.{proper_is_term}
 use Rattle.pvs_types.proofs.OutcomeLaws.{provides_then, provides_weaker, provides_any, provides_option, provides_result, provides_within, provides_last, provides_if}
 use Rattle.pvs_types.proofs.FormsSound.{LiesIn, head_lies_in, up_lies_in, first_sound}
 use Rattle.pvs_types.proofs.CoerceSound.{move, coerce_sound}
@@ -183,7 +184,8 @@ module _ (m : Model) (s : Lookups) (fits : IsModelOf m s) (Sat : Assumptions →
         let r = result_in (λ v. (mean m b (env_with v e)).set) (mean m f e).value (mean m a e).value (mean m d e).set
         (w e (mean m f e).value fn.member) arg.member in
         record {
-          member = subst (λ y. IsMember (result_at (mean m f e).value (mean m a e).value) y.set) (sym (mean-put_in m b a e pa.term))
+          member = subst (λ y. IsMember (result_at (mean m f e).value (mean m a e).value) y.set)
+              (sym (mean-put_in m b a e (proper_is_term a pa.term)))
               r.in_set;
           inside = all_true (all_true fn.inside arg.inside) r.defined;
         };
@@ -282,7 +284,7 @@ module _ (m : Model) (s : Lookups) (fits : IsModelOf m s) (Sat : Assumptions →
     in_each = λ e sat.
         let r = pair_value g t c a b k pt w e sat in
         let at : (mean m (put_in b (Fst k t)) e).set ≡ (mean m b (env_with r.first e)).set = ap (λ x. x.set)
-        (mean-put_in m b (Fst k t) e tt) ∙ ap (λ v. (mean m b (env_with v e)).set) (ap first_of_pair r.is) in
+        (mean-put_in m b (Fst k t) e refl) ∙ ap (λ v. (mean m b (env_with v e)).set) (ap first_of_pair r.is) in
         record {
           member = move (sym (ap second_of_pair r.is)) (sym at) r.second_in;
           inside = all_true (pt.in_each e sat).inside (ap is_pair r.is);

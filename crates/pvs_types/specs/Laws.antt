@@ -1,10 +1,12 @@
 -- What typing promises, for all trees, look-ups and models.
 use Rattle.std.specs.Prelude.{◌≡◌, true, [], Ok, IfOk, ◌↔◌}
 use Rattle.pvs_terms.specs.Tree.{Tree, IsWithinLimits}
+use Rattle.pvs_terms.specs.Sorts.{IsTerm, IsSorted}
 use Rattle.pvs_subst.specs.Contexts.{Assumptions}
 use Rattle.pvs_sem.specs.Value.{Value, IsMember}
-use Rattle.pvs_sem.specs.Meaning.{Model, Env, mean, inside, IsTerm}
+use Rattle.pvs_sem.specs.Meaning.{Model, Env, mean, inside}
 use Rattle.pvs_sem.specs.Satisfies.{Satisfies, Above}
+use Rattle.pvs_types.specs.ProperTerms.{IsProperTerm}
 use Rattle.pvs_sig.specs.Lookups.{Lookups, IsOrdered}
 use Rattle.pvs_types.specs.Limits.{is_within_limits}
 use Rattle.pvs_types.specs.Outcome.{Condition}
@@ -24,14 +26,14 @@ IsTrueAbove m g e c = IsTrueCondition m (Above m g e) c
 -- the other; the flag of a well-formed type is on.
 abbrev pub InferIsSound : Type 0
 InferIsSound = (m : Model) (s : Lookups) → IsModelOf m s → (g : Assumptions) (e : Env) → Satisfies m g e → (t : Tree)
-    → Provides (IsTrueAbove m g e) (λ a. IsTerm t × IsOfType m t a e) (infer s g t)
+    → Provides (IsTrueAbove m g e) (λ a. IsProperTerm t × IsOfType m t a e) (infer s g t)
 
 abbrev pub CheckIsSound : Type 0
 CheckIsSound = (m : Model) (s : Lookups) → IsModelOf m s → (g : Assumptions) (e : Env) → Satisfies m g e → (t a : Tree)
-    → Provides (IsTrueAbove m g e) (λ _. IsTerm t × IsOfType m t a e) (check s g t a)
+    → Provides (IsTrueAbove m g e) (λ _. IsProperTerm t × IsOfType m t a e) (check s g t a)
 
 abbrev pub CoerceIsSound : Type 0
-CoerceIsSound = (m : Model) (s : Lookups) → IsModelOf m s → (g : Assumptions) (e : Env) → Satisfies m g e → (t b a : Tree) → IsTerm t
+CoerceIsSound = (m : Model) (s : Lookups) → IsModelOf m s → (g : Assumptions) (e : Env) → Satisfies m g e → (t b a : Tree) → IsProperTerm t
     → Provides (IsTrueAbove m g e) (λ _. IsMember (mean m t e).value (mean m b e).set → IsMember (mean m t e).value (mean m a e).set)
     (coerce s g t b a)
 
@@ -62,9 +64,13 @@ NonemptyIsSound = (m : Model) (s : Lookups) → IsModelOf m s → (a : Tree) (e 
 
 -- the forms and coercion are their cases over themselves, where a defined name is larger than its body
 abbrev pub AreTheirCases : Type 0
-AreTheirCases = (s : Lookups) → IsOrdered s → (g : Assumptions) (t b a : Tree) → IsTerm t
+AreTheirCases = (s : Lookups) → IsOrdered s → (g : Assumptions) (t b a : Tree) → IsProperTerm t
     → (head s b ≡ head_by s (head s) b) × (up s b ≡ up_by s (up s) b) × (most s b ≡ most_by s (most s) b)
     × (is_known_nonempty s b ≡ nonempty_by s (is_known_nonempty s) b) × (coerce s g t b a ≡ coerce_by s (coerce s) g t b a)
+
+-- each term of a sorted tree is one that coercion takes
+abbrev pub SortedTermsAreProper : Type 0
+SortedTermsAreProper = (t : Tree) → IsSorted t → IsTerm t → IsProperTerm t
 
 -- the test of the limits decides them
 abbrev pub LimitsAreTested : Type 0

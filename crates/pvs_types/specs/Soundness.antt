@@ -4,7 +4,8 @@ use Rattle.pvs_terms.specs.Tree.{Tree, Ref, Bind, Lam}
 use Rattle.pvs_terms.specs.declared.shape.Binder.TheVariants.{Lambda}
 use Rattle.pvs_subst.specs.Contexts.{Assumptions, Variable, Hypothesis}
 use Rattle.pvs_sem.specs.Value.{Value, Truth, IsMember, IsAscending}
-use Rattle.pvs_sem.specs.Meaning.{Model, Env, env_rest, mean, inside, IsTerm}
+use Rattle.pvs_sem.specs.Meaning.{Model, Env, env_rest, mean, inside}
+use Rattle.pvs_types.specs.ProperTerms.{IsProperTerm}
 use Rattle.pvs_sig.specs.Lookups.{Lookups}
 use Rattle.pvs_types.specs.Outcome.{Condition, Conditions, Outcome, Refused, Accepted}
 use Rattle.pvs_types.specs.Typing.{Typing, variable_type}
@@ -48,7 +49,7 @@ pub record IsOfType (m : Model) (t a : Tree) (e : Env) : Type 0 where
 
 -- a term that is of the type in each environment that counts
 pub record HasType (m : Model) (Sat : Assumptions → Env → Type 0) (g : Assumptions) (t a : Tree) : Type 0 where
-  pub term : IsTerm t
+  pub term : IsProperTerm t
   pub in_each : (e : Env) → Sat g e → IsOfType m t a e
 
 -- where the term's value is in the set of `b`, it is in the set of `a`

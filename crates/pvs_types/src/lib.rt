@@ -6,7 +6,7 @@
 #![tactic(auto)]
 
 ghost use Rattle.std.specs.Prelude.{◌≡◌};
-ghost use Rattle.pvs_types.specs.Laws.{InferIsSound, CheckIsSound, CoerceIsSound, FormedIsSound, TypingIsSound, TypingIsSoundAbove, FormsAreSound, NonemptyIsSound, AreTheirCases, LimitsAreTested, UsesAreSymbols};
+ghost use Rattle.pvs_types.specs.Laws.{InferIsSound, CheckIsSound, CoerceIsSound, FormedIsSound, TypingIsSound, TypingIsSoundAbove, FormsAreSound, NonemptyIsSound, AreTheirCases, SortedTermsAreProper, LimitsAreTested, UsesAreSymbols};
 
 /// What typing promises, for all trees, look-ups and models. The call does nothing: its contract states it.
 ///
@@ -24,10 +24,12 @@ pub fn typing_is_sound()
     ensures nonempty { NonemptyIsSound }
 {}
 
-/// The forms of types and coercion are their cases, the first that applies, wherever a defined name is larger than its
-/// body; and what is accepted uses exactly the symbols of the tree. The call does nothing: its contract states it.
+/// The forms of types are their cases, and so is the coercion of a proper term, as each term of a sorted tree is: the
+/// first case that applies, wherever a defined name is larger than its body. What is accepted uses exactly the symbols
+/// of the tree. The call does nothing: its contract states it.
 pub fn typing_is_exact()
     ensures cases { AreTheirCases }
+    ensures terms { SortedTermsAreProper }
     ensures limits { LimitsAreTested }
     ensures symbols { UsesAreSymbols }
 {}
