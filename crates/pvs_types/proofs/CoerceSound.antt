@@ -21,7 +21,7 @@ use Rattle.pvs_sig.specs.Lookups.{Lookups}
 use Rattle.pvs_types.specs.Outcome.{Condition, Outcome, ◌>>=◌, ◌>>◌, pure, refuse, owe, from_result, within_limits}
 use Rattle.pvs_types.specs.Forms.{body, by_body, head, up, is_among}
 use Rattle.pvs_types.specs.Coerce.{lift_one, application, first_part, second_part, Coercion, same_type, coerce_parts, coerce_pair, coerce_domains, coerce_function, coerce_to, coerce_by, both_sizes, as_coercion, coerce_step, coerce}
-use Rattle.pvs_types.specs.Soundness.{IsSatisfaction, IsTrueCondition, Provides, IsModelOf, Converts}
+use Rattle.pvs_types.specs.Soundness.{IsSatisfaction, IsTrueCondition, IsValued, Provides, IsModelOf, Converts}
 use Rattle.pvs_types.proofs.OutcomeLaws.{provides_then, provides_weaker, provides_if, provides_result, provides_within}
 use Rattle.pvs_types.proofs.ProperTermLaws.{proper_is_term}
 use Rattle.pvs_types.proofs.BySizeLaws.{by_size_has}
@@ -77,6 +77,9 @@ module _ (m : Model) (s : Lookups) (fits : IsModelOf m s) (Sat : Assumptions →
   abbrev Holds : Condition → Type 0
   Holds = IsTrueCondition m Sat
 
+  abbrev Valued : Ref → Type 0
+  Valued = IsValued m s
+
   abbrev ascending : (t : Tree) (e : Env) → IsAscending (mean m t e).set
   ascending t e = ascending_mean m fits.sets t e
 
@@ -89,36 +92,38 @@ module _ (m : Model) (s : Lookups) (fits : IsModelOf m s) (Sat : Assumptions →
 
   -- what is accepted converts
   abbrev Accepts : Assumptions → Tree → Tree → Tree → Outcome (Unit {0}) → Type 0
-  Accepts g t b a o = Provides (IsTrueCondition m Sat) (λ _. Converts m Sat g t b a) o
+  Accepts g t b a o = Provides (IsTrueCondition m Sat) (IsValued m s) (λ _. Converts m Sat g t b a) o
 
   abbrev IsSound : Coercion → Type 0
   IsSound go = (g : Assumptions) (t b a : Tree) → IsProperTerm t → Accepts g t b a (go g t b a)
 
   same_sound : (g : Assumptions) (t b d a : Tree) → LiesIn m s fits b d → Accepts g t b a (same_type d a)
-  same_sound g t b d a w = provides_if Holds (λ _. Converts m Sat g t b a) (tree_eq d a) (pure tt) (refuse Mismatch)
-      (λ h. λ _ e sat q. subst (λ y. IsMember (mean m t e).value (mean m y e).set) (tree_eq-true d a h) (w e (mean m t e).value q))
+  same_sound g t b d a w = provides_if Holds Valued (λ _. Converts m Sat g t b a) (tree_eq d a) (pure tt) (refuse Mismatch)
+      (λ h. λ _ _ e sat q. subst (λ y. IsMember (mean m t e).value (mean m y e).set) (tree_eq-true d a h) (w e (mean m t e).value q))
       (λ h. tt)
 
   head_same_sound : (g : Assumptions) (t b a : Tree) → Accepts g t b a (from_result (head s b) >>= (λ d. same_type d a))
-  head_same_sound g t b a = provides_result Holds (λ _. Converts m Sat g t b a) (head s b) (λ d. same_type d a)
+  head_same_sound g t b a = provides_result Holds Valued (λ _. Converts m Sat g t b a) (head s b) (λ d. same_type d a)
       (λ d h. same_sound g t b d a (head_lies_in m s fits b d h))
 
   name_sound : (go : Coercion) → IsSound go → (g : Assumptions) (t b : Tree) (r : Ref) → IsProperTerm t
       → Accepts g t b (TName r) (from_result (body s r) >>= by_body (go g t b) (from_result (head s b) >>= (λ d. same_type d (TName r))))
-  name_sound go ih g t b r k = provides_result Holds (λ _. Converts m Sat g t b (TName r)) (body s r) _ (λ o h. at o (body_is s r o h))
+  name_sound go ih g t b r k = provides_result Holds Valued (λ _. Converts m Sat g t b (TName r)) (body s r) _
+      (λ o h. at o (body_is s r o h))
     where
       at : (o : Option Tree) → s.body_of r ≡ o
           → Accepts g t b (TName r) (by_body (go g t b) (from_result (head s b) >>= (λ d. same_type d (TName r))) o)
       at None h = head_same_sound g t b (TName r)
-      at (Some u) h = provides_weaker Holds (λ _. Converts m Sat g t b u) (λ _. Converts m Sat g t b (TName r)) (go g t b u) (ih g t b u k)
+      at (Some u) h = provides_weaker Holds Valued (λ _. Converts m Sat g t b u) (λ _. Converts m Sat g t b (TName r)) (go g t b u)
+          (ih g t b u k)
           (λ _ pass e sat q. subst (λ xs. IsMember (mean m t e).value xs) (sym (fits.definitions r u e h)) (pass e sat q))
 
   sub_sound : (go : Coercion) → IsSound go → (g : Assumptions) (t b a p : Tree) → IsProperTerm t
       → Accepts g t b (TSub a p) (go g t b a >> (within_limits (put_in p t) >>= owe g))
-  sub_sound go ih g t b a p k = provides_then Holds (λ _. Converts m Sat g t b a) (λ _. Converts m Sat g t b (TSub a p)) (go g t b a)
+  sub_sound go ih g t b a p k = provides_then Holds Valued (λ _. Converts m Sat g t b a) (λ _. Converts m Sat g t b (TSub a p)) (go g t b a)
       (λ _. within_limits (put_in p t) >>= owe g) (ih g t b a k) (λ _ pass.
-      provides_within Holds (λ _. Converts m Sat g t b (TSub a p)) (put_in p t) (owe g)
-      (λ all e sat q. subset_member (λ w. is_true (mean m p (env_with w e)).value) (mean m t e).value (mean m a e).set (pass e sat q)
+      provides_within Holds Valued (λ _. Converts m Sat g t b (TSub a p)) (put_in p t) (owe g)
+      (λ all _ e sat q. subset_member (λ w. is_true (mean m p (env_with w e)).value) (mean m t e).value (mean m a e).set (pass e sat q)
       (ap (λ x. is_true x.value) (sym (mean-put_in m p t e (proper_is_term t k))) ∙ ap is_true (all.0 e sat))))
 
   pair_converts : (g : Assumptions) (t b : Tree) (j k : ℕ) (a1 b1 a2 b2 : Tree) → LiesIn m s fits b (TPair j a1 b1) → IsProperTerm t
@@ -143,20 +148,21 @@ module _ (m : Model) (s : Lookups) (fits : IsModelOf m s) (Sat : Assumptions →
   parts_sound go ih g t b j k a1 b1 a2 b2 w term =
       let f : Tree = first_part k t in
       let x : Tree = second_part k t in
-      let last = provides_weaker Holds (λ _. Converts m Sat g x (put_in b1 f) (put_in b2 f)) (λ _. Converts m Sat g t b (TPair k a2 b2))
+      let last = provides_weaker Holds Valued (λ _. Converts m Sat g x (put_in b1 f) (put_in b2 f))
+      (λ _. Converts m Sat g t b (TPair k a2 b2))
       (go g x (put_in b1 f) (put_in b2 f)) (ih g x (put_in b1 f) (put_in b2 f) (second_term k t term)) in
-      provides_within Holds (λ _. Converts m Sat g t b (TPair k a2 b2)) f _ (
-      provides_then Holds (λ _. Converts m Sat g f a1 a2) (λ _. Converts m Sat g t b (TPair k a2 b2)) (go g f a1 a2) _
+      provides_within Holds Valued (λ _. Converts m Sat g t b (TPair k a2 b2)) f _ (
+      provides_then Holds Valued (λ _. Converts m Sat g f a1 a2) (λ _. Converts m Sat g t b (TPair k a2 b2)) (go g f a1 a2) _
       (ih g f a1 a2 (first_term k t term)) (λ _ p1.
-      provides_within Holds (λ _. Converts m Sat g t b (TPair k a2 b2)) x _ (
-      provides_within Holds (λ _. Converts m Sat g t b (TPair k a2 b2)) (put_in b1 f) _ (
-      provides_within Holds (λ _. Converts m Sat g t b (TPair k a2 b2)) (put_in b2 f) _ (
+      provides_within Holds Valued (λ _. Converts m Sat g t b (TPair k a2 b2)) x _ (
+      provides_within Holds Valued (λ _. Converts m Sat g t b (TPair k a2 b2)) (put_in b1 f) _ (
+      provides_within Holds Valued (λ _. Converts m Sat g t b (TPair k a2 b2)) (put_in b2 f) _ (
       last (λ _ p2. pair_converts g t b j k a1 b1 a2 b2 w term p1 p2))))))
 
   pair_sound : (go : Coercion) → IsSound go → (g : Assumptions) (t b : Tree) (k : ℕ) (a2 b2 d : Tree) → LiesIn m s fits b d → IsProperTerm t
       → Accepts g t b (TPair k a2 b2) (coerce_pair go g t k a2 b2 d)
   pair_sound go ih g t b k a2 b2 (Bind (Product j) a1 b1) w term =
-      provides_if Holds (λ _. Converts m Sat g t b (TPair k a2 b2)) (eqb j k) (coerce_parts go g t k a1 b1 a2 b2) (refuse Mismatch)
+      provides_if Holds Valued (λ _. Converts m Sat g t b (TPair k a2 b2)) (eqb j k) (coerce_parts go g t k a1 b1 a2 b2) (refuse Mismatch)
       (λ _. parts_sound go ih g t b j k a1 b1 a2 b2 w term) (λ _. tt)
   pair_sound go ih g t b k a2 b2 _ w term = tt
 
@@ -169,8 +175,8 @@ module _ (m : Model) (s : Lookups) (fits : IsModelOf m s) (Sat : Assumptions →
   Enters g a1 a2 = (e : Env) → Sat g e → (w : Value) → IsMember w (mean m a1 e).set → IsMember w (mean m a2 e).set
 
   enters : (go : Coercion) → IsSound go → (g : Assumptions) (a1 a2 : Tree)
-      → Provides (IsTrueCondition m Sat) (λ _. Enters g a1 a2) (go (Variable a1 ∷ g) (Var 0) (lift_one a1) (lift_one a2))
-  enters go ih g a1 a2 = provides_weaker Holds (λ _. Converts m Sat (Variable a1 ∷ g) (Var 0) (lift_one a1) (lift_one a2))
+      → Provides (IsTrueCondition m Sat) (IsValued m s) (λ _. Enters g a1 a2) (go (Variable a1 ∷ g) (Var 0) (lift_one a1) (lift_one a2))
+  enters go ih g a1 a2 = provides_weaker Holds Valued (λ _. Converts m Sat (Variable a1 ∷ g) (Var 0) (lift_one a1) (lift_one a2))
       (λ _. Enters g a1 a2) (go (Variable a1 ∷ g) (Var 0) (lift_one a1) (lift_one a2))
       (ih (Variable a1 ∷ g) (Var 0) (lift_one a1) (lift_one a2) tt)
       (λ _ pass e sat w q. subst (λ x. IsMember w x.set) (mean-next m a2 (env_with w e))
@@ -178,15 +184,15 @@ module _ (m : Model) (s : Lookups) (fits : IsModelOf m s) (Sat : Assumptions →
       (subst (λ x. IsMember w x.set) (sym (mean-next m a1 (env_with w e))) q)))
 
   domains_sound : (go : Coercion) → IsSound go → (g : Assumptions) (a1 a2 : Tree)
-      → Provides (IsTrueCondition m Sat) (λ _. AreSame g a1 a2) (coerce_domains go g a1 a2)
+      → Provides (IsTrueCondition m Sat) (IsValued m s) (λ _. AreSame g a1 a2) (coerce_domains go g a1 a2)
   domains_sound go ih g a1 a2 =
-      provides_if Holds (λ _. AreSame g a1 a2) (tree_eq a1 a2) (pure tt) _
-      (λ h. λ _ e sat. ap (λ y. (mean m y e).set) (tree_eq-true a1 a2 h))
-      (λ _. provides_within Holds (λ _. AreSame g a1 a2) (lift_one a1) _ (
-      provides_within Holds (λ _. AreSame g a1 a2) (lift_one a2) _ (
-      provides_then Holds (λ _. Enters g a1 a2) (λ _. AreSame g a1 a2) (go (Variable a1 ∷ g) (Var 0) (lift_one a1) (lift_one a2)) _
+      provides_if Holds Valued (λ _. AreSame g a1 a2) (tree_eq a1 a2) (pure tt) _
+      (λ h. λ _ _ e sat. ap (λ y. (mean m y e).set) (tree_eq-true a1 a2 h))
+      (λ _. provides_within Holds Valued (λ _. AreSame g a1 a2) (lift_one a1) _ (
+      provides_within Holds Valued (λ _. AreSame g a1 a2) (lift_one a2) _ (
+      provides_then Holds Valued (λ _. Enters g a1 a2) (λ _. AreSame g a1 a2) (go (Variable a1 ∷ g) (Var 0) (lift_one a1) (lift_one a2)) _
       (enters go ih g a1 a2) (λ _ there.
-      provides_weaker Holds (λ _. Enters g a2 a1) (λ _. AreSame g a1 a2) (go (Variable a2 ∷ g) (Var 0) (lift_one a2) (lift_one a1))
+      provides_weaker Holds Valued (λ _. Enters g a2 a1) (λ _. AreSame g a1 a2) (go (Variable a2 ∷ g) (Var 0) (lift_one a2) (lift_one a1))
       (enters go ih g a2 a1)
       (λ _ back e sat. same_sets (mean m a1 e).set (mean m a2 e).set (ascending a1 e) (ascending a2 e) (there e sat) (back e sat))))))
 
@@ -204,10 +210,10 @@ module _ (m : Model) (s : Lookups) (fits : IsModelOf m s) (Sat : Assumptions →
       → Accepts g t b (TFun a2 b2) (coerce_function go g t a2 b2 d)
   function_sound go ih g t b a2 b2 (Bind Function a1 b1) w term =
       let x : Tree = application a1 t in
-      provides_then Holds (λ _. AreSame g a1 a2) (λ _. Converts m Sat g t b (TFun a2 b2)) (coerce_domains go g a1 a2) _
+      provides_then Holds Valued (λ _. AreSame g a1 a2) (λ _. Converts m Sat g t b (TFun a2 b2)) (coerce_domains go g a1 a2) _
       (domains_sound go ih g a1 a2) (λ _ same.
-      provides_within Holds (λ _. Converts m Sat g t b (TFun a2 b2)) x _ (
-      provides_weaker Holds (λ _. Converts m Sat (Variable a1 ∷ g) x b1 b2) (λ _. Converts m Sat g t b (TFun a2 b2))
+      provides_within Holds Valued (λ _. Converts m Sat g t b (TFun a2 b2)) x _ (
+      provides_weaker Holds Valued (λ _. Converts m Sat (Variable a1 ∷ g) x b1 b2) (λ _. Converts m Sat g t b (TFun a2 b2))
       (go (Variable a1 ∷ g) x b1 b2) (ih (Variable a1 ∷ g) x b1 b2 (application_term a1 t term))
       (λ _ pass. function_converts g t b a1 b1 a2 b2 w same pass)))
   function_sound go ih g t b a2 b2 _ w term = tt
@@ -216,19 +222,19 @@ module _ (m : Model) (s : Lookups) (fits : IsModelOf m s) (Sat : Assumptions →
   to_sound go ih g t b (Leaf o) k = head_same_sound g t b (Leaf o)
   to_sound go ih g t b (Name OfType r) k = name_sound go ih g t b r k
   to_sound go ih g t b (Bind Subtype a p) k = sub_sound go ih g t b a p k
-  to_sound go ih g t b (Bind (Product j) a2 b2) k = provides_result Holds (λ _. Converts m Sat g t b (TPair j a2 b2)) (head s b)
+  to_sound go ih g t b (Bind (Product j) a2 b2) k = provides_result Holds Valued (λ _. Converts m Sat g t b (TPair j a2 b2)) (head s b)
       (coerce_pair go g t j a2 b2)
       (λ d h. pair_sound go ih g t b j a2 b2 d (head_lies_in m s fits b d h) k)
-  to_sound go ih g t b (Bind Function a2 b2) k = provides_result Holds (λ _. Converts m Sat g t b (TFun a2 b2)) (head s b)
+  to_sound go ih g t b (Bind Function a2 b2) k = provides_result Holds Valued (λ _. Converts m Sat g t b (TFun a2 b2)) (head s b)
       (coerce_function go g t a2 b2)
       (λ d h. function_sound go ih g t b a2 b2 d (head_lies_in m s fits b d h) k)
   to_sound go ih g t b _ k = tt
 
   by_sound : (go : Coercion) → IsSound go → IsSound (coerce_by s go)
-  by_sound go ih g t b a k = provides_result Holds (λ _. Converts m Sat g t b a) (up s b)
+  by_sound go ih g t b a k = provides_result Holds Valued (λ _. Converts m Sat g t b a) (up s b)
       (λ us. cond (is_among a us) (pure tt) (coerce_to s go g t b a)) (λ us h.
-      provides_if Holds (λ _. Converts m Sat g t b a) (is_among a us) (pure tt) (coerce_to s go g t b a)
-      (λ i. λ _ e sat q. up_lies_in m s fits b a us h i e (mean m t e).value q)
+      provides_if Holds Valued (λ _. Converts m Sat g t b a) (is_among a us) (pure tt) (coerce_to s go g t b a)
+      (λ i. λ _ _ e sat q. up_lies_in m s fits b a us h i e (mean m t e).value q)
       (λ _. to_sound go ih g t b a k))
 
   pub coerce_sound : IsSound (coerce s)

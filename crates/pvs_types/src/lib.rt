@@ -11,8 +11,9 @@ ghost use Rattle.pvs_types.specs.Laws.{InferIsSound, CheckIsSound, CoerceIsSound
 /// What typing promises, for all trees, look-ups and models. The call does nothing: its contract states it.
 ///
 /// In a model that fits the look-ups, and an environment that satisfies the context, what is accepted holds where its
-/// conditions are TRUE: a term that is inferred or checked has its value in the set of the type and is inside, a
-/// coercion leads from the set of one type to that of the other, and a well-formed type is inside.
+/// conditions are TRUE and the constants that it uses have values in their types: a term that is inferred or checked has
+/// its value in the set of the type and is inside, a coercion leads from the set of one type to that of the other, and a
+/// well-formed type is inside.
 pub fn typing_is_sound()
     ensures infer { InferIsSound }
     ensures check { CheckIsSound }
