@@ -10,7 +10,9 @@ use Rattle.pvs_terms.specs.declared.shape.Projection.TheVariants.{First, Second}
 use Rattle.pvs_subst.specs.Replace.{raised_index, lift, put_var, put_at, put_in}
 use Rattle.std.specs.List.{list_all}
 use Rattle.pvs_sem.specs.Value.{Value}
-use Rattle.pvs_sem.specs.Meaning.{Model, IsTerm, Env, env_with, env_rest, value_meaning, inside, mean, bind_meaning, join_meaning, project_meaning, if_meaning}
+use Rattle.pvs_terms.specs.Sorts.{IsTerm}
+use Rattle.pvs_subst.proofs.SortLaws.{sort_of-put_var}
+use Rattle.pvs_sem.specs.Meaning.{Model, Env, env_with, env_rest, value_meaning, inside, mean, bind_meaning, join_meaning, project_meaning, if_meaning}
 
 -- the environment that a lifted tree sees
 abbrev pub lifted_env : Env → ℕ → ℕ → Env
@@ -50,15 +52,15 @@ env_at_under m arg at v e (suc n) = ap (λ x. x.value)
     (mean-lift m (put_var arg at n) 1 0 (env_with v e) ∙ ap (mean m (put_var arg at n)) (fun_ext (λ k. ap (env_with v e) (add-one k))))
 
 pub term_is_value : (m : Model) (t : Tree) (e : Env) → IsTerm t → mean m t e ≡ value_meaning (mean m t e).value
-term_is_value m (Leaf BoolType) e h = absurd h
+term_is_value m (Leaf BoolType) e h = cc
 term_is_value m (Leaf Yes) e h = refl
 term_is_value m (Leaf No) e h = refl
 term_is_value m (Var n) e h = refl
-term_is_value m (Name OfType r) e h = absurd h
+term_is_value m (Name OfType r) e h = cc
 term_is_value m (Name OfTerm r) e h = refl
-term_is_value m (Bind Subtype a p) e h = absurd h
-term_is_value m (Bind Function a b) e h = absurd h
-term_is_value m (Bind (Product k) a b) e h = absurd h
+term_is_value m (Bind Subtype a p) e h = cc
+term_is_value m (Bind Function a b) e h = cc
+term_is_value m (Bind (Product k) a b) e h = cc
 term_is_value m (Bind Lambda a b) e h = refl
 term_is_value m (Join Apply a b) e h = refl
 term_is_value m (Join (Tuple k) a b) e h = refl
@@ -67,31 +69,9 @@ term_is_value m (Project (First k) a) e h = refl
 term_is_value m (Project (Second k) a) e h = refl
 term_is_value m (If c a b) e h = refl
 
-pub IsTerm-lift : (t : Tree) (by from : ℕ) → IsTerm t → IsTerm (lift t by from)
-IsTerm-lift (Leaf BoolType) by from h = h
-IsTerm-lift (Leaf Yes) by from h = h
-IsTerm-lift (Leaf No) by from h = h
-IsTerm-lift (Var n) by from h = h
-IsTerm-lift (Name s r) by from h = h
-IsTerm-lift (Bind Subtype a p) by from h = h
-IsTerm-lift (Bind Function a b) by from h = h
-IsTerm-lift (Bind (Product k) a b) by from h = h
-IsTerm-lift (Bind Lambda a b) by from h = IsTerm-lift b by (suc from) h
-IsTerm-lift (Join Apply a b) by from h = h
-IsTerm-lift (Join (Tuple k) a b) by from h = (IsTerm-lift a by from h.0, IsTerm-lift b by from h.1)
-IsTerm-lift (Join Equal a b) by from h = h
-IsTerm-lift (Project o a) by from h = h
-IsTerm-lift (If c a b) by from h = h
-
-IsTerm-put_var : (arg : Tree) (at n : ℕ) → IsTerm arg → IsTerm (put_var arg at n)
-IsTerm-put_var arg zero zero h = h
-IsTerm-put_var arg zero (suc n) h = tt
-IsTerm-put_var arg (suc at) zero h = tt
-IsTerm-put_var arg (suc at) (suc n) h = IsTerm-lift (put_var arg at n) 1 0 (IsTerm-put_var arg at n h)
-
 pub mean-put_at : (m : Model) (t arg : Tree) (at : ℕ) (e : Env) → IsTerm arg → mean m (put_at t arg at) e ≡ mean m t (env_at m arg at e)
 mean-put_at m (Leaf o) arg at e h = refl
-mean-put_at m (Var n) arg at e h = term_is_value m (put_var arg at n) e (IsTerm-put_var arg at n h)
+mean-put_at m (Var n) arg at e h = term_is_value m (put_var arg at n) e (sort_of-put_var arg at n h)
 mean-put_at m (Name s r) arg at e h = refl
 mean-put_at m (Bind o a b) arg at e h =
     ap (λ x. bind_meaning o x (λ v. mean m (put_at b arg (suc at)) (env_with v e))) (mean-put_at m a arg at e h)

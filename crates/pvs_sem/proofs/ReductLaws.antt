@@ -2,15 +2,16 @@
 use Rattle.std.proofs.Common.{◌≡◌, ℕ, zero, suc, ◌<◌, ◌≤◌, ◌&&◌, refl, ap, ◌∙◌, arith}
 use Rattle.std.proofs.Math.Path.{fun_ext}
 use Rattle.std.specs.List.{list_all}
-use Rattle.pvs_terms.specs.Tree.{Text, Tree, Leaf, Var, Name, Bind, Join, Project, If, Own, Formal, Inst, Trees, none, more, False, free_below}
+use Rattle.pvs_terms.specs.Tree.{Text, Tree, Leaf, Var, Name, Bind, Join, Project, If, Own, Formal, Inst, Trees, none, more, False, free_below, AreClosed}
+use Rattle.pvs_terms.specs.Sorts.{sort_of, IsType}
 use Rattle.pvs_terms.specs.declared.shape.Plain.TheVariants.{BoolType}
 use Rattle.pvs_terms.specs.declared.shape.Sort.{Sort}
 use Rattle.pvs_terms.specs.declared.shape.Sort.TheVariants.{OfType, OfTerm}
 use Rattle.pvs_terms.specs.declared.shape.Binder.TheVariants.{Subtype, Function, Product}
-use Rattle.pvs_subst.specs.Instance.{actual, instantiate}
+use Rattle.pvs_subst.specs.Instance.{actual, instantiate, HasActual, HasActuals}
 use Rattle.pvs_sem.specs.Value.{Value}
-use Rattle.pvs_sem.specs.Meaning.{Model, Env, env_with, value_meaning, set_meaning, mean, inside, name_meaning, bind_meaning, project_meaning, IsType, IsOfSort}
-use Rattle.pvs_sem.specs.Reduct.{empty_env, reduct, IsActual, AreOfSorts}
+use Rattle.pvs_sem.specs.Meaning.{Model, Env, env_with, value_meaning, set_meaning, mean, inside, name_meaning, bind_meaning, project_meaning}
+use Rattle.pvs_sem.specs.Reduct.{empty_env, reduct}
 use Rattle.pvs_sem.proofs.MeaningLaws.{term_is_value}
 
 -- environments that agree below k
@@ -74,31 +75,31 @@ type_is_set m (Name OfType r) e h = refl
 type_is_set m (Bind Subtype a b) e h = refl
 type_is_set m (Bind Function a b) e h = refl
 type_is_set m (Bind (Product k) a b) e h = refl
-type_is_set m _ e h = absurd h
+type_is_set m _ e h = cc
 
-meaning_of_sort : (m : Model) (s : Sort) (t : Tree) (e : Env) → IsOfSort s t → mean m t e ≡ name_meaning s (mean m t e)
+meaning_of_sort : (m : Model) (s : Sort) (t : Tree) (e : Env) → sort_of t ≡ s → mean m t e ≡ name_meaning s (mean m t e)
 meaning_of_sort m OfType t e h = type_is_set m t e h
 meaning_of_sort m OfTerm t e h = term_is_value m t e h
 
-actual_mean : (m : Model) (acts : Trees) (n : ℕ) (s : Sort) (other : Tree) (e : Env) → IsActual acts n s
+actual_mean : (m : Model) (acts : Trees) (n : ℕ) (s : Sort) (other : Tree) (e : Env) → AreClosed acts → HasActual acts n s
     → mean m (actual acts n other) e ≡ name_meaning s (mean m (actual acts n False) empty_env)
-actual_mean m none n s other e h = absurd h
-actual_mean m (more x xs) zero s other e h = meaning_of_sort m s x e h.1
-    ∙ ap (name_meaning s) (mean_agrees m x 0 e empty_env (omega (arith, h.0)) (agrees_none e empty_env))
-actual_mean m (more x xs) (suc n) s other e h = actual_mean m xs n s other e h
+actual_mean m none n s other e c h = absurd h
+actual_mean m (more x xs) zero s other e c h = meaning_of_sort m s x e h
+    ∙ ap (name_meaning s) (mean_agrees m x 0 e empty_env (omega (arith, c.0)) (agrees_none e empty_env))
+actual_mean m (more x xs) (suc n) s other e c h = actual_mean m xs n s other e c.1 h
 
-actual_inside : (m : Model) (acts : Trees) (n : ℕ) (s : Sort) (other : Tree) (e : Env) → IsActual acts n s
+actual_inside : (m : Model) (acts : Trees) (n : ℕ) (s : Sort) (other : Tree) (e : Env) → AreClosed acts → HasActual acts n s
     → inside m (actual acts n other) e ≡ inside m (actual acts n False) empty_env
-actual_inside m none n s other e h = absurd h
-actual_inside m (more x xs) zero s other e h = inside_agrees m x 0 e empty_env (omega (arith, h.0)) (agrees_none e empty_env)
-actual_inside m (more x xs) (suc n) s other e h = actual_inside m xs n s other e h
+actual_inside m none n s other e c h = absurd h
+actual_inside m (more x xs) zero s other e c h = inside_agrees m x 0 e empty_env (omega (arith, c.0)) (agrees_none e empty_env)
+actual_inside m (more x xs) (suc n) s other e c h = actual_inside m xs n s other e c.1 h
 
-module _ (m : Model) (th : Text) (acts : Trees) where
-  pub mean-instantiate : (t : Tree) (e : Env) → AreOfSorts acts t → mean m (instantiate t th acts) e ≡ mean (reduct m th acts) t e
+module _ (m : Model) (th : Text) (acts : Trees) (closed : AreClosed acts) where
+  pub mean-instantiate : (t : Tree) (e : Env) → HasActuals acts t → mean m (instantiate t th acts) e ≡ mean (reduct m th acts) t e
   mean-instantiate (Leaf o) e h = refl
   mean-instantiate (Var n) e h = refl
   mean-instantiate (Name s (Own n)) e h = refl
-  mean-instantiate (Name s (Formal n)) e h = actual_mean m acts n s (Name s (Formal n)) e h
+  mean-instantiate (Name s (Formal n)) e h = actual_mean m acts n s (Name s (Formal n)) e closed h
   mean-instantiate (Name s (Inst a n xs)) e h = refl
   mean-instantiate (Bind o a b) e h =
       ap (λ x. bind_meaning o x (λ v. mean m (instantiate b th acts) (env_with v e))) (mean-instantiate a e h.0)
@@ -107,11 +108,11 @@ module _ (m : Model) (th : Text) (acts : Trees) where
   mean-instantiate (Project o a) e h = ap (project_meaning o) (mean-instantiate a e h)
   mean-instantiate (If a b c) e h = rw (mean-instantiate a e h.0, mean-instantiate b e h.1, mean-instantiate c e h.2) refl
 
-  pub inside-instantiate : (t : Tree) (e : Env) → AreOfSorts acts t → inside m (instantiate t th acts) e ≡ inside (reduct m th acts) t e
+  pub inside-instantiate : (t : Tree) (e : Env) → HasActuals acts t → inside m (instantiate t th acts) e ≡ inside (reduct m th acts) t e
   inside-instantiate (Leaf o) e h = refl
   inside-instantiate (Var n) e h = refl
   inside-instantiate (Name s (Own n)) e h = refl
-  inside-instantiate (Name s (Formal n)) e h = actual_inside m acts n s (Name s (Formal n)) e h
+  inside-instantiate (Name s (Formal n)) e h = actual_inside m acts n s (Name s (Formal n)) e closed h
   inside-instantiate (Name s (Inst a n xs)) e h = refl
   inside-instantiate (Bind o a b) e h =
       ap (λ x. x && list_all (λ v. inside m (instantiate b th acts) (env_with v e)) (mean m (instantiate a th acts) e).set)

@@ -1,11 +1,12 @@
 -- Laws of meaning, for all trees, models and environments.
 use Rattle.std.specs.Prelude.{◌≡◌, true, List}
-use Rattle.pvs_terms.specs.Tree.{Text, Tree, Trees}
+use Rattle.pvs_terms.specs.Tree.{Text, Tree, Trees, AreClosed}
+use Rattle.pvs_terms.specs.Sorts.{IsTerm}
 use Rattle.pvs_subst.specs.Replace.{lift, put_in}
-use Rattle.pvs_subst.specs.Instance.{instantiate}
+use Rattle.pvs_subst.specs.Instance.{instantiate, HasActuals}
 use Rattle.pvs_sem.specs.Value.{Value, IsMember, IsAscending, is_true}
-use Rattle.pvs_sem.specs.Meaning.{Model, Env, env_with, env_rest, mean, inside, IsTerm}
-use Rattle.pvs_sem.specs.Reduct.{reduct, AreOfSorts}
+use Rattle.pvs_sem.specs.Meaning.{Model, Env, env_with, env_rest, mean, inside}
+use Rattle.pvs_sem.specs.Reduct.{reduct}
 use Rattle.pvs_sem.specs.Interpretations.{FiniteMap, AreSets, model_of}
 use Rattle.pvs_sem.specs.Truth.{Interpretation, truth}
 use Rattle.pvs_sem.specs.BooleanTerms.{IsBooleanTerm, HasTruths}
@@ -32,7 +33,7 @@ ReplacementKeepsMeaning = (m : Model) (t u : Tree) (e : Env) → IsTerm u →
 
 -- an instance of a tree means what the tree means in the reduct
 abbrev pub InstancesKeepMeaning : Type 0
-InstancesKeepMeaning = (m : Model) (th : Text) (acts : Trees) (t : Tree) (e : Env) → AreOfSorts acts t →
+InstancesKeepMeaning = (m : Model) (th : Text) (acts : Trees) (t : Tree) (e : Env) → AreClosed acts → HasActuals acts t →
     (mean m (instantiate t th acts) e ≡ mean (reduct m th acts) t e) × (inside m (instantiate t th acts) e ≡ inside (reduct m th acts) t e)
 
 -- the truth of a boolean term is its value

@@ -106,35 +106,3 @@ inside m (Bind o a b) e = inside m a e && list_all (λ v. inside m b (env_with v
 inside m (Join o a b) e = (inside m a e && inside m b e) && join_inside o (mean m a e).value (mean m b e).value
 inside m (Project o a) e = inside m a e && is_pair (mean m a e).value
 inside m (If c a b) e = inside m c e && if_inside (mean m c e).value (inside m a e) (inside m b e)
-
--- A tree that stands for a value. The body of an abstraction and the parts of a tuple are to be terms too, since
--- typing may go on with them alone.
-abbrev pub IsTerm : Tree → Type 0
-IsTerm (Leaf BoolType) = ⊥
-IsTerm (Leaf Yes) = Unit {0}
-IsTerm (Leaf No) = Unit {0}
-IsTerm (Var n) = Unit {0}
-IsTerm (Name OfType r) = ⊥
-IsTerm (Name OfTerm r) = Unit {0}
-IsTerm (Bind Subtype a p) = ⊥
-IsTerm (Bind Function a b) = ⊥
-IsTerm (Bind (Product k) a b) = ⊥
-IsTerm (Bind Lambda a b) = IsTerm b
-IsTerm (Join Apply a b) = Unit {0}
-IsTerm (Join (Tuple k) a b) = IsTerm a × IsTerm b
-IsTerm (Join Equal a b) = Unit {0}
-IsTerm (Project o a) = Unit {0}
-IsTerm (If c a b) = Unit {0}
-
--- a tree that stands for a set
-abbrev pub IsType : Tree → Type 0
-IsType (Leaf BoolType) = Unit {0}
-IsType (Name OfType r) = Unit {0}
-IsType (Bind Subtype a b) = Unit {0}
-IsType (Bind Function a b) = Unit {0}
-IsType (Bind (Product k) a b) = Unit {0}
-IsType _ = ⊥
-
-abbrev pub IsOfSort : Sort → Tree → Type 0
-IsOfSort OfType t = IsType t
-IsOfSort OfTerm t = IsTerm t

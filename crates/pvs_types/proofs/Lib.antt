@@ -1,5 +1,6 @@
 pub mod LimitsLaws
 pub mod BySizeLaws
+pub mod ProperTermLaws
 pub mod SizeLaws
 pub mod FormsLaws
 pub mod OutcomeLaws

@@ -4,7 +4,7 @@ use Rattle.pvs_terms.specs.Tree.{Tree, Leaf, Var, Name, Bind, Join, Project, If,
 use Rattle.pvs_terms.specs.declared.shape.Sort.TheVariants.{OfType, OfTerm}
 use Rattle.pvs_terms.specs.declared.shape.Binder.TheVariants.{Subtype, Function, Product, Lambda}
 use Rattle.pvs_subst.specs.Replace.{lift, put_var, put_at, put_in}
-use Rattle.pvs_sem.specs.Meaning.{IsTerm}
+use Rattle.pvs_terms.specs.Sorts.{IsTerm}
 use Rattle.pvs_sig.specs.Lookups.{type_size}
 
 pub type_size-lift : (rank : Ref → ℕ) (t : Tree) (by from : ℕ) → type_size rank (lift t by from) ≡ type_size rank t
@@ -21,10 +21,10 @@ type_size-lift rank (Project o a) by from = refl
 type_size-lift rank (If c a b) by from = refl
 
 pub type_size-term : (rank : Ref → ℕ) (t : Tree) → IsTerm t → type_size rank t ≡ 1
-type_size-term rank (Name OfType r) h = absurd h
-type_size-term rank (Bind Subtype a p) h = absurd h
-type_size-term rank (Bind Function a b) h = absurd h
-type_size-term rank (Bind (Product k) a b) h = absurd h
+type_size-term rank (Name OfType r) h = cc
+type_size-term rank (Bind Subtype a p) h = cc
+type_size-term rank (Bind Function a b) h = cc
+type_size-term rank (Bind (Product k) a b) h = cc
 type_size-term rank _ h = refl
 
 type_size-put_var : (rank : Ref → ℕ) (arg : Tree) (at n : ℕ) → type_size rank arg ≡ 1 → type_size rank (put_var arg at n) ≡ 1

@@ -5,6 +5,7 @@ pub mod Forms
 pub mod Coerce
 pub mod Symbols
 pub mod Typing
+pub mod ProperTerms
 pub mod Soundness
 pub mod Uses
 pub mod Laws

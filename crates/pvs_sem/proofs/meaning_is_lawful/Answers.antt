@@ -12,6 +12,6 @@ returns c = record {
   ascending = λ i h t e. ascending_mean (model_of i) (ascending_model i h) t e;
   lifting = λ m t e. (mean-next m t e, inside-next m t e);
   replacement = λ m t u e k. (mean-put_in m t u e k, inside-put_in m t u e k);
-  instances = λ m th acts t e h. (mean-instantiate m th acts t e h, inside-instantiate m th acts t e h);
+  instances = λ m th acts t e c h. (mean-instantiate m th acts c t e h, inside-instantiate m th acts c t e h);
   truths = truth_is_value;
 }

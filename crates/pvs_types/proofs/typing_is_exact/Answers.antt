@@ -1,4 +1,5 @@
 use Rattle.pvs_types.proofs.FormsLaws.{head_step, up_step, most_step, nonempty_step}
+use Rattle.pvs_types.proofs.ProperTermLaws.{sorted_is_proper}
 use Rattle.pvs_types.proofs.LimitsLaws.{limits_decided}
 use Rattle.pvs_types.proofs.CoerceLaws.{coerce_rule}
 use Rattle.pvs_types.proofs.UsesLaws.{coerce_silent, typing_uses}
@@ -13,6 +14,7 @@ returns c = record {
     nonempty_step s ordered b,
     coerce_rule s ordered g t b a k,
   );
+  terms = sorted_is_proper;
   limits = limits_decided;
   symbols = λ s g t b a. let u = typing_uses s t in (u.infer g, u.check g a, u.well_formed g, coerce_silent s g t b a);
 }
