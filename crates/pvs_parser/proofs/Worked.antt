@@ -11,7 +11,7 @@ use Rattle.pvs_syntax.specs.declared.expression.Expr.{Expr}
 use Rattle.pvs_syntax.specs.declared.expression.Expr.TheVariants as expr
 use Rattle.pvs_syntax.specs.declared.expression.InfixWord.TheVariants as words
 use Rattle.pvs_parser.specs.Terminals.{same_kind}
-use Rattle.pvs_parser.specs.Language.{bounded, named, untyped}
+use Rattle.pvs_parser.specs.Language.{bounded, simple_name, untyped_binding}
 use Rattle.pvs_parser.specs.Descent.{Answer, expression, reader, list_from, term_from, compared_from}
 
 abbrev word : ℕ → Word
@@ -31,7 +31,7 @@ abbrev i : ℕ → Terminal
 i n = record { kind = kind.Id; word = word n }
 
 abbrev x : ℕ → Expr
-x n = expr.NameTerm (named (word n))
+x n = expr.NameTerm (simple_name (word n))
 
 abbrev no : Expr → Expr
 no a = expr.Not a (word 0).pos
@@ -58,7 +58,7 @@ implies_goes_right = refl
 
 -- a AND FORALL b, c: d IFF a
 binder_reaches : expression bounded (i 1 ∷ t kind.And ∷ t kind.Forall ∷ i 2 ∷ t kind.Comma ∷ i 3 ∷ t kind.Colon ∷ i 4 ∷ t kind.Iff ∷ i 1 ∷ [])
-    ≡ reads (expr.Infix words.And (x 1) (expr.Binder binders.Forall (untyped (word 2) ∷ untyped (word 3) ∷ []) (expr.Infix words.Iff (x 4) (x 1)) (word 0).pos))
+    ≡ reads (expr.Infix words.And (x 1) (expr.Binder binders.Forall (untyped_binding (word 2) ∷ untyped_binding (word 3) ∷ []) (expr.Infix words.Iff (x 4) (x 1)) (word 0).pos))
 unfolding reader list_from term_from compared_from same_kind
 binder_reaches = refl
 

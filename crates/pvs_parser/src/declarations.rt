@@ -3,7 +3,7 @@
 ghost use Rattle.std.specs.Prelude.{◌≡◌, ◌<◌, ◌∷◌, [], length, map, IfOk};
 ghost use Rattle.pvs_parser.specs.Descent.{Gives};
 ghost use Rattle.pvs_parser.specs.Language.{bounded, outermost};
-ghost use Rattle.pvs_parser.specs.Steps.{each, declares};
+ghost use Rattle.pvs_parser.specs.Steps.{each, declaration_in};
 ghost use Rattle.pvs_parser.specs.Units.{type_decl, const_decl, formula_of};
 ghost use Rattle.pvs_parser.specs.UnitDescent as spec;
 
@@ -22,7 +22,7 @@ use std::alloc::{AllocError, Global};
 
 /// A part of a theory that has declarations.
 #[derive(Clone, Copy, Debug, PartialEq, Eq)]
-pub enum Part {
+pub enum TheoryPart {
     Assuming,
     Body,
 }
@@ -114,7 +114,7 @@ fn constant(alloc: Global, name: Word, params: Items<Binding>, tokens: &[Termina
     Ok((one(alloc, decl)?, rest))
 }
 
-/// A constant with parameters, behind its name and the parenthesis.
+/// A constant with parameters, after its name and the parenthesis.
 fn function(alloc: Global, name: Word, tokens: &[Terminal]) -> Decls<'_>
     ensures { Gives (λ p. (p.0, p.1.now)) result (spec.function bounded name tokens.now) }
 {
@@ -133,7 +133,7 @@ fn constants<'a>(alloc: Global, names: &[Word], tokens: &'a [Terminal]) -> Decls
     }
 }
 
-/// A type with a definition, behind its `=`.
+/// A type with a definition, after its `=`.
 fn type_definition(alloc: Global, name: Word, tokens: &[Terminal]) -> Decls<'_>
     ensures { Gives (λ p. (p.0, p.1.now)) result (spec.type_definition bounded name tokens.now) }
 {
@@ -156,7 +156,7 @@ fn type_decls(alloc: Global, names: &[Word], nonempty: bool) -> Result<Items<Dec
     Ok(found)
 }
 
-/// What stands behind names, a colon and TYPE. A single name may have a definition.
+/// What stands after names, a colon and TYPE. A single name may have a definition.
 fn types<'a>(alloc: Global, names: &[Word], tokens: &'a [Terminal]) -> Decls<'a>
     ensures { Gives (λ p. (p.0, p.1.now)) result (spec.types bounded names.now tokens.now) }
 {
@@ -206,7 +206,7 @@ fn formula<'a>(
 /// What the names before a colon are.
 fn declared<'a>(alloc: Global, names: &[Word], tokens: &'a [Terminal]) -> Decls<'a>
     requires { 0 < length names.now }
-    ensures { Gives (λ p. (p.0, p.1.now)) result (spec.declared bounded names.now tokens.now) }
+    ensures { Gives (λ p. (p.0, p.1.now)) result (spec.decls_after_colon bounded names.now tokens.now) }
 {
     let [token, rest @ ..] = tokens else {
         return Err(stop(tokens));
@@ -224,7 +224,7 @@ fn declared<'a>(alloc: Global, names: &[Word], tokens: &'a [Terminal]) -> Decls<
 
 /// Names, a colon, and what they are.
 fn named(alloc: Global, tokens: &[Terminal]) -> Decls<'_>
-    ensures { Gives (λ p. (p.0, p.1.now)) result (spec.named bounded tokens.now) }
+    ensures { Gives (λ p. (p.0, p.1.now)) result (spec.declaration_of_names bounded tokens.now) }
 {
     let (names, rest) = ids(alloc, tokens)?;
     let rest = expect(TerminalKind::Colon, rest)?;
@@ -248,7 +248,7 @@ fn declaration(alloc: Global, tokens: &[Terminal]) -> Decls<'_>
 /// What the names before a colon are in an assuming part.
 fn assumed_after<'a>(alloc: Global, names: &[Word], tokens: &'a [Terminal]) -> Decls<'a>
     requires { 0 < length names.now }
-    ensures { Gives (λ p. (p.0, p.1.now)) result (spec.assumed_after bounded names.now tokens.now) }
+    ensures { Gives (λ p. (p.0, p.1.now)) result (spec.assuming_decls_after_colon bounded names.now tokens.now) }
 {
     let [token, rest @ ..] = tokens else {
         return Err(stop(tokens));
@@ -262,7 +262,7 @@ fn assumed_after<'a>(alloc: Global, names: &[Word], tokens: &'a [Terminal]) -> D
 
 /// A declaration of an assuming part.
 fn assumed(alloc: Global, tokens: &[Terminal]) -> Decls<'_>
-    ensures { Gives (λ p. (p.0, p.1.now)) result (spec.assumed bounded tokens.now) }
+    ensures { Gives (λ p. (p.0, p.1.now)) result (spec.assuming_decl bounded tokens.now) }
 {
     if let Some(rest) = after(TerminalKind::Importing, tokens) {
         return importing(alloc, rest);
@@ -273,12 +273,12 @@ fn assumed(alloc: Global, tokens: &[Terminal]) -> Decls<'_>
 }
 
 /// A declaration of a part of a theory.
-fn entry(alloc: Global, part: Part, tokens: &[Terminal]) -> Decls<'_>
-    ensures { Gives (λ p. (p.0, p.1.now)) result (declares bounded part tokens.now) }
+fn entry(alloc: Global, part: TheoryPart, tokens: &[Terminal]) -> Decls<'_>
+    ensures { Gives (λ p. (p.0, p.1.now)) result (declaration_in bounded part tokens.now) }
 {
     match part {
-        Part::Assuming => assumed(alloc, tokens),
-        Part::Body => declaration(alloc, tokens),
+        TheoryPart::Assuming => assumed(alloc, tokens),
+        TheoryPart::Body => declaration(alloc, tokens),
     }
 }
 
@@ -292,7 +292,7 @@ fn comes_decl(tokens: &[Terminal]) -> bool
     }
 }
 
-/// The tokens behind a semicolon, where one comes next.
+/// The tokens after a semicolon, where one comes next.
 fn past_semicolon(tokens: &[Terminal]) -> &[Terminal]
     ensures { result.now ≡ spec.past_semicolon tokens.now }
 {
@@ -304,8 +304,8 @@ fn past_semicolon(tokens: &[Terminal]) -> &[Terminal]
 
 /// Declarations of a part of a theory, as long as one comes next, and the tokens after them.
 #[tactic(auto, using(crate::proofs::UnitTurns::many_end, crate::proofs::UnitTurns::many_err, crate::proofs::UnitTurns::many_next, crate::proofs::UnitTurns::many_full))]
-pub fn declarations(alloc: Global, part: Part, tokens: &[Terminal]) -> Decls<'_>
-    ensures { Gives (λ p. (p.0, p.1.now)) result (spec.many_from (declares bounded part) (length tokens.now) [] tokens.now) }
+pub fn declarations(alloc: Global, part: TheoryPart, tokens: &[Terminal]) -> Decls<'_>
+    ensures { Gives (λ p. (p.0, p.1.now)) result (spec.many_from (declaration_in bounded part) (length tokens.now) [] tokens.now) }
 {
     let mut found = Items::new(alloc);
     let mut rest = tokens;

@@ -2,7 +2,7 @@
 
 ghost use Rattle.std.specs.Prelude.{◌≡◌, ◌<◌, [], length, map, IfOk};
 ghost use Rattle.pvs_parser.specs.Descent.{Gives};
-ghost use Rattle.pvs_parser.specs.Language.{bounded, inside, outermost};
+ghost use Rattle.pvs_parser.specs.Language.{bounded, in_frame, outermost};
 ghost use Rattle.pvs_parser.specs.Steps.{each};
 ghost use Rattle.pvs_parser.specs.Units.{type_formal, const_formal};
 ghost use Rattle.pvs_parser.specs.UnitDescent as spec;
@@ -34,7 +34,7 @@ pub fn type_of(
     Ok((ty, rest))
 }
 
-/// Whether a type is declared nonempty, behind TYPE, and the tokens after that.
+/// Whether a type is declared nonempty, after TYPE, and the tokens after that.
 pub fn plus(tokens: &[Terminal]) -> (bool, &[Terminal])
     ensures { (result.0, result.1.now) ≡ spec.plus tokens.now }
 {
@@ -64,7 +64,7 @@ fn const_formals<'a>(
     tokens: &'a [Terminal],
 ) -> Result<(Items<Formal>, &'a [Terminal]), Failure>
     requires { 0 < length names.now }
-    ensures { Gives (λ p. (p.0, p.1.now)) result (each const_formal names.now (spec.type bounded (inside outermost) tokens.now)) }
+    ensures { Gives (λ p. (p.0, p.1.now)) result (each const_formal names.now (spec.type bounded (in_frame outermost) tokens.now)) }
 {
     let mut found = Items::new(alloc);
     let mut rest = tokens;

@@ -35,7 +35,7 @@ pub fn ids(alloc: Global, tokens: &[Terminal]) -> Result<(Vec<Word>, &[Terminal]
     Err(crowded(comes_id(rest), rest))
 }
 
-/// A theory, with the actuals that stand behind its name.
+/// A theory, with the actuals that stand after its name.
 fn inst(alloc: Global, tokens: &[Terminal]) -> Result<(InstExpr, &[Terminal]), Failure>
     ensures { Gives (λ p. (p.0, p.1.now)) result (spec.inst bounded tokens.now) }
 {
@@ -65,7 +65,7 @@ fn instances(alloc: Global, tokens: &[Terminal]) -> Result<(Vec<InstExpr>, &[Ter
     Err(stop(rest))
 }
 
-/// What stands behind IMPORTING: an entry for each instance.
+/// What stands after IMPORTING: an entry for each instance.
 pub fn importing(alloc: Global, tokens: &[Terminal]) -> Result<(Items<Decl>, &[Terminal]), Failure>
     ensures { Gives (λ p. (p.0, p.1.now)) result (spec.importing bounded tokens.now) }
 {

@@ -11,7 +11,7 @@ use crate::tokens::{expect, id, stop, too_deep};
 use pvs_base::MAX_LEVEL;
 use pvs_syntax::{Proof, Word};
 
-/// The parenthesis that closes a script, behind the one that opens it, and the tokens after it.
+/// The parenthesis that closes a script, after the one that opens it, and the tokens after it.
 ///
 /// Only parentheses count for the level in a script.
 #[tactic(auto, unfolding(crate::specs::UnitDescent::balanced))]
@@ -47,7 +47,7 @@ fn script(tokens: &[Terminal]) -> Result<(Word, Word, &[Terminal]), Failure>
     Ok((token.word, last, rest))
 }
 
-/// The names of a theory and of a formula, behind a parenthesis and `proof`.
+/// The names of a theory and of a formula, after a parenthesis and `proof`.
 fn target(tokens: &[Terminal]) -> Result<(Word, Word, &[Terminal]), Failure>
     ensures { Gives (λ p. (p.0, p.1, p.2.now)) result (spec.target tokens.now) }
 {
@@ -58,7 +58,7 @@ fn target(tokens: &[Terminal]) -> Result<(Word, Word, &[Terminal]), Failure>
     Ok((theory, formula, rest))
 }
 
-/// A proof, behind its parenthesis, and the tokens after it.
+/// A proof, after its parenthesis, and the tokens after it.
 pub fn proof(tokens: &[Terminal]) -> Result<(Proof, &[Terminal]), Failure>
     ensures { Gives (λ p. (p.0, p.1.now)) result (spec.proof bounded tokens.now) }
 {

@@ -6,7 +6,7 @@ ghost use Rattle.pvs_parser.specs.Language.{bounded};
 ghost use Rattle.pvs_syntax.specs.Words.{spelling};
 ghost use Rattle.pvs_parser.specs.UnitDescent as spec;
 
-use crate::declarations::{Decls, Part, declarations};
+use crate::declarations::{Decls, TheoryPart, declarations};
 use crate::failure::{Failure, Reason, Stop};
 use crate::formals::formal_part;
 use crate::terminal::{Terminal, TerminalKind};
@@ -22,12 +22,12 @@ fn assuming_part(alloc: Global, tokens: &[Terminal]) -> Decls<'_>
     let Some(rest) = after(TerminalKind::Assuming, tokens) else {
         return Ok((Items::new(alloc), tokens));
     };
-    let (assuming, rest) = declarations(alloc, Part::Assuming, rest)?;
+    let (assuming, rest) = declarations(alloc, TheoryPart::Assuming, rest)?;
     let rest = expect(TerminalKind::EndAssuming, rest)?;
     Ok((assuming, rest))
 }
 
-/// The name and the formals of a theory, and the tokens behind BEGIN.
+/// The name and the formals of a theory, and the tokens after BEGIN.
 fn heading(
     alloc: Global,
     tokens: &[Terminal],
@@ -79,7 +79,7 @@ pub fn theory<'a>(
 {
     let (name, formals, rest) = heading(alloc, tokens)?;
     let (assuming, rest) = assuming_part(alloc, rest)?;
-    let (decls, rest) = declarations(alloc, Part::Body, rest)?;
+    let (decls, rest) = declarations(alloc, TheoryPart::Body, rest)?;
     let (end, rest) = ending(text, name, rest)?;
     let theory = Theory {
         name,

@@ -6,7 +6,7 @@ use Rattle.pvs_base.specs.declared.code.Code.TheVariants.{OutOfProfile, TooNeste
 use Rattle.pvs_base.specs.declared.place.Pos.{Pos}
 use Rattle.pvs_base.specs.Place.{place_after}
 use Rattle.pvs_base.specs.Answers.{◌>>=◌}
-use Rattle.pvs_lexer.specs.Tokens.{Lexed, tokens_of}
+use Rattle.pvs_lexer.specs.Tokens.{TokenStream, tokens_of}
 use Rattle.pvs_syntax.specs.declared.unit.Proof.{Proof}
 use Rattle.pvs_script.specs.declared.fault.ScriptFault.{ScriptFault}
 use Rattle.pvs_script.specs.declared.fault.ScriptFault.TheVariants as faults
@@ -51,7 +51,7 @@ abbrev pub ending : Pos → Option Fault → State → Result Script Fault
 ending end None s = whole end s
 ending end (Some fault) s = Err fault
 
-abbrev pub read_lexed : Pos → List ℕ → Lexed → State → Result Script Fault
+abbrev pub read_lexed : Pos → List ℕ → TokenStream → State → Result Script Fault
 read_lexed first span lexed s = take_tokens s (map (lexeme span) lexed.tokens) >>= ending (place_after first span) lexed.fault
 
 -- the script of a span whose first byte has a place, or the first fault

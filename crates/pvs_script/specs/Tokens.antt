@@ -9,7 +9,7 @@ use Rattle.pvs_lexer.specs.declared.token.Token.{Token}
 use Rattle.pvs_lexer.specs.declared.token.TokenKind.{TokenKind}
 use Rattle.pvs_lexer.specs.declared.token.TokenKind.TheVariants as kind
 use Rattle.pvs_lexer.specs.Spans.{bytes_of}
-use Rattle.pvs_lexer.specs.Tokens.{Lexed, tokens_of}
+use Rattle.pvs_lexer.specs.Tokens.{TokenStream, tokens_of}
 use Rattle.pvs_syntax.specs.declared.unit.Proof.{Proof}
 use Rattle.pvs_script.specs.declared.lexeme.Lexeme.{Lexeme}
 use Rattle.pvs_script.specs.declared.lexeme.Sort.{Sort}
@@ -78,7 +78,7 @@ abbrev pub script_span : List ℕ → Proof → List ℕ
 script_span text proof = span_of text proof.start proof.end
 
 -- the tokens of the span, with the lexical fault behind them, if there is one
-abbrev pub lexed : List ℕ → Proof → Lexed
+abbrev pub lexed : List ℕ → Proof → TokenStream
 lexed text proof = tokens_of proof.pos (script_span text proof)
 
 abbrev pub lexemes : List ℕ → Proof → List Lexeme
