@@ -21,7 +21,7 @@ use Rattle.pvs_syntax.specs.declared.expression.NameExpr.{NameExpr}
 use Rattle.pvs_syntax.specs.declared.expression.TypeExpr.{TypeExpr}
 use Rattle.pvs_syntax.specs.declared.expression.TypeExpr.TheVariants as type_expr
 use Rattle.pvs_parser.specs.Terminals.{Is, IsId, is_id, same_kind}
-use Rattle.pvs_parser.specs.Language.{Limit, Tokens, IsBelow, HasRoom, level, Derives, Ending, Plain, Bound, Form, Item, Nonterminal, form, item, list, name, inst, type_, TreeOf, ItemTree, tighter, name_with_theory, sign, comparison, in_frame, without_marks, with_mark, with_lasting_mark, before_call, binder_word, group_tree}
+use Rattle.pvs_parser.specs.Language.{Limit, Tokens, IsBelow, HasRoom, level, Derives, Ending, Plain, Bound, Form, Item, Nonterminal, form, item, list, name, inst, type_, TreeOf, ItemTree, operand_form, name_with_theory, sign, comparison, in_frame, without_marks, with_mark, with_lasting_mark, before_call, binder_word, group_tree}
 use Rattle.pvs_parser.specs.Descent.{Answer, Read, Readers, after, prefix, prefix_of_binder, begins, begins_of, compares, compares_of, label, label_of, comes_type, entries, starts_item, list_from, list_with, framed_with, name_after, name_term_with, name_type_with, first_of, first_with, call_mark, call_with, project, term_from, term_with, prefixed_with, binder_with, compared_from, operand_with, between_with, chain_with, cond_with, otherwise_of, otherwise_with, type_of, type_with, parameter_of, parameter_with, component_with, variable_with, bare_variable, definition_with, item_with, next_readers, reader}
 use Rattle.pvs_base.specs.Answers.{◌>>=◌}
 use Rattle.pvs_parser.proofs.Follows.{pull, pull_of, Ends, FormStops, ItemStops}
@@ -140,7 +140,7 @@ pub whole_stops : (e : Ending) (us : Tokens) → pull_of us < 1 → Ends us → 
 whole_stops Plain us lt ends = (lt, ends)
 whole_stops Bound us lt ends = (lt, ends)
 
-tighter_stops : (c : Connective) (e : Ending) (us : Tokens) → FormStops (Form.Chain c e) us → FormStops (tighter c e) us
+tighter_stops : (c : Connective) (e : Ending) (us : Tokens) → FormStops (Form.Chain c e) us → FormStops (operand_form c e) us
 tighter_stops connective.Iff Plain us stop = (omega (arith, stop.0), stop.1)
 tighter_stops connective.Implies Plain us stop = (omega (arith, stop.0), stop.1)
 tighter_stops connective.Or Plain us stop = (omega (arith, stop.0), stop.1)
@@ -150,7 +150,7 @@ tighter_stops connective.Implies Bound us stop = stop
 tighter_stops connective.Or Bound us stop = stop
 tighter_stops connective.And Bound us stop = stop
 
-sign_stops : (c : Connective) (t : Terminal) (us : Tokens) → Is (sign c) t → FormStops (tighter c Plain) (t ∷ us)
+sign_stops : (c : Connective) (t : Terminal) (us : Tokens) → Is (sign c) t → FormStops (operand_form c Plain) (t ∷ us)
 sign_stops connective.Iff t us is = (pull_at kind.Iff 2 (omega arith) t us is, ends_at kind.Iff refl t us is)
 sign_stops connective.Implies t us is = (pull_at kind.Implies 3 (omega arith) t us is, ends_at kind.Implies refl t us is)
 sign_stops connective.Or t us is = (pull_at kind.Or 4 (omega arith) t us is, ends_at kind.Or refl t us is)
@@ -221,7 +221,7 @@ framed_goes go i end l k ts us all xs u reads lt stop other is s =
 
 -- ---- chains
 
-between_goes : (go : Readers) (c : Connective) (e : Ending) (l : Nesting) (ts : Tokens) (x : Expr) (m : Nesting) → FormReads go (tighter c e) l ts x m → (all us : Tokens) → Splits all ts us → FormStops (tighter c e) us → Gets (between_with go c l all) (x, m, us)
+between_goes : (go : Readers) (c : Connective) (e : Ending) (l : Nesting) (ts : Tokens) (x : Expr) (m : Nesting) → FormReads go (operand_form c e) l ts x m → (all us : Tokens) → Splits all ts us → FormStops (operand_form c e) us → Gets (between_with go c l all) (x, m, us)
 between_goes go connective.Iff e l ts x m f all us s stop = f all us s stop
 between_goes go connective.Implies e l ts x m f all us s stop = f all us s stop
 between_goes go connective.Or e l ts x m f all us s stop = f all us s stop
@@ -438,9 +438,9 @@ complete go n g _ _ _ _ _ (Derives.more i l k m ts us x xs t d is e lt) fits =
 complete go n g _ _ _ _ _ (Derives.expression e l m ts x d) fits =
     λ all us s stop. g.chain connective.Iff e l ts x m d fits all us s (whole_stops e us stop.0 stop.1)
 complete go n g _ _ _ _ _ (Derives.alone c e l m ts x d) fits =
-    λ all us s stop. then_ _ (between_goes go c e l ts x m (complete go n g (form (tighter c e)) l ts x m d fits) all us s (tighter_stops c e us stop)) (absent _ (sign_absent c e us stop) found)
+    λ all us s stop. then_ _ (between_goes go c e l ts x m (complete go n g (form (operand_form c e)) l ts x m d fits) all us s (tighter_stops c e us stop)) (absent _ (sign_absent c e us stop) found)
 complete go n g _ _ _ _ _ (Derives.joined c e l k m ts us x y t d is lt f) fits =
-    λ all vs s stop. then_ _ (between_goes go c Plain l ts x k (complete go n g (form (tighter c Plain)) l ts x k d (omega (arith, fits, length-append ts (t ∷ us)))) all (t ∷ (us ++ vs)) (unglue ts (t ∷ us) s) (sign_stops c t (us ++ vs) is))
+    λ all vs s stop. then_ _ (between_goes go c Plain l ts x k (complete go n g (form (operand_form c Plain)) l ts x k d (omega (arith, fits, length-append ts (t ∷ us)))) all (t ∷ (us ++ vs)) (unglue ts (t ∷ us) s) (sign_stops c t (us ++ vs) is))
     (there _ _ (after_is (sign c) t (us ++ vs) is) (has_room go.limit k (with_mark k) _ _ lt (then_ _ (g.chain c e (with_mark k) us y m f (omega (arith, fits, length-append ts (t ∷ us))) (us ++ vs) vs both stop) found)))
 complete go n g _ _ _ _ _ (Derives.compared l m ts x d) fits =
     λ all us s stop.

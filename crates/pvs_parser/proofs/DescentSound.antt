@@ -22,7 +22,7 @@ use Rattle.pvs_syntax.specs.declared.expression.NameExpr.{NameExpr}
 use Rattle.pvs_syntax.specs.declared.expression.TypeExpr.{TypeExpr}
 use Rattle.pvs_syntax.specs.declared.expression.TypeExpr.TheVariants as type_expr
 use Rattle.pvs_parser.specs.Terminals.{Is, IsId, is_id, same_kind}
-use Rattle.pvs_parser.specs.Language.{Limit, Tokens, HasRoom, Derives, Ending, Plain, Bound, Form, Item, Nonterminal, form, item, list, name, inst, type_, TreeOf, ItemTree, in_frame, without_marks, with_mark, with_lasting_mark, tighter, sign, operator, instance, before_call, comparison, binder_word, begins_type, typed_binding}
+use Rattle.pvs_parser.specs.Language.{Limit, Tokens, HasRoom, Derives, Ending, Plain, Bound, Form, Item, Nonterminal, form, item, list, name, inst, type_, TreeOf, ItemTree, in_frame, without_marks, with_mark, with_lasting_mark, operand_form, sign, operator, instance, before_call, comparison, binder_word, begins_type, typed_binding}
 use Rattle.pvs_parser.specs.Descent.{Answer, Read, Readers, stop, too_many, starts_item, after, end_of_list, entries, nested_expr, list_from, list_with, framed_with, name_of, name_after, condition_with, cond_with, first_of, first_with, call_mark, call_with, project, term_from, term_with, body_with, binder_with, let_with, not_with, prefix, prefix_of_binder, prefixed_with, compares, compares_of, compared_from, operand_with, chain_on, between_with, chain_with, otherwise_of, otherwise_with, tuple_type, fun_type_with, base_with, sub_type_with, type_of, type_with, parameter_of, parameter_with, unnamed_with, component_with, variable_with, definition_with, item_with, next_readers, expr_with, reader}
 use Rattle.pvs_base.specs.Answers.{◌>>=◌}
 use Rattle.pvs_parser.proofs.Yields.{Yields, here, none, bind, cases, weaken}
@@ -520,13 +520,13 @@ operand_sound go sound l ts = begins_cases ts _ _
     (λ t us q e is. weaken (λ r f. (f.0, f.1, f.2, Derives.prefixed f.0 l r.1 f.1 r.0 f.3, as_operand f.0 r.2 f.4)) (prefixed_sound go sound l t ts us e q is))
     (bind (term_sound go sound l ts) (λ p f. compared_sound go sound (length ts) p.0 l p.1 ts f.1 p.2 f.2 (Derives.term f.0 l p.1 f.1 p.0 f.3) f.4 (splits_shorter f.2)))
 
-reach_tighter : (c : Connective) → reach (tighter c Plain) ≡ suc (power c)
+reach_tighter : (c : Connective) → reach (operand_form c Plain) ≡ suc (power c)
 reach_tighter connective.Iff = refl
 reach_tighter connective.Implies = refl
 reach_tighter connective.Or = refl
 reach_tighter connective.And = refl
 
-reach_bound : (c : Connective) → reach (tighter c Bound) ≡ 1
+reach_bound : (c : Connective) → reach (operand_form c Bound) ≡ 1
 reach_bound connective.Iff = refl
 reach_bound connective.Implies = refl
 reach_bound connective.Or = refl
@@ -539,7 +539,7 @@ pull_sign connective.Or = omega arith
 pull_sign connective.And = omega arith
 
 -- no connective follows a binder or a LET
-pub bound_stops : (c : Connective) (us vs : Tokens) (t : Terminal) → pull_of us < reach (tighter c Bound) → us ≡ t ∷ vs → Is (sign c) t → ⊥
+pub bound_stops : (c : Connective) (us vs : Tokens) (t : Terminal) → pull_of us < reach (operand_form c Bound) → us ≡ t ∷ vs → Is (sign c) t → ⊥
 bound_stops c us vs t lt e is =
     let here_is : pull_of us ≡ pull (sign c) = ap pull_of e ∙ ap pull is in
     omega (arith, subst (λ z. pull_of us < z) (reach_bound c) lt, here_is, pull_sign c)
@@ -577,11 +577,11 @@ not_signed c (t ∷ ts) e f = not_signed_kind c t.kind (after_none (sign c) t ts
 abbrev ChainFront : Limit → Connective → Nesting → Tokens → Expr × Nesting × Tokens → Type 0
 ChainFront limit c l ts p = Formed limit (λ e. Form.Chain c e) l ts p
 
-alone_ends : (c : Connective) (e : Ending) (ts : Tokens) → after (sign c) ts ≡ None → pull_of ts < reach (tighter c e) → pull_of ts < reach (Form.Chain c e)
+alone_ends : (c : Connective) (e : Ending) (ts : Tokens) → after (sign c) ts ≡ None → pull_of ts < reach (operand_form c e) → pull_of ts < reach (Form.Chain c e)
 alone_ends c Plain ts a lt = not_signed c ts a (subst (λ z. pull_of ts < z) (reach_tighter c) lt)
 alone_ends c Bound ts a lt = subst (λ z. pull_of ts < z) (reach_bound c) lt
 
-joined_made : {limit : Limit} (c : Connective) (l : Nesting) (ts : Tokens) (p : Expr × Nesting × Tokens) → HasRoom limit p.1 → (e : Ending) (vs : Tokens) → Splits ts vs p.2 → Derives limit (form (tighter c e)) l vs p.0 p.1 → pull_of p.2 < reach (tighter c e)
+joined_made : {limit : Limit} (c : Connective) (l : Nesting) (ts : Tokens) (p : Expr × Nesting × Tokens) → HasRoom limit p.1 → (e : Ending) (vs : Tokens) → Splits ts vs p.2 → Derives limit (form (operand_form c e)) l vs p.0 p.1 → pull_of p.2 < reach (operand_form c e)
     → (us : Tokens) → Comes (sign c) p.2 us → (q : Expr × Nesting × Tokens) → ChainFront limit c (with_mark p.1) us q → ChainFront limit c l ts (expr.Infix (operator c) p.0 q.0, q.1, q.2)
 joined_made c l ts p has Plain vs s d lt us a q g = (
   g.0,
@@ -592,12 +592,12 @@ joined_made c l ts p has Plain vs s d lt us a q g = (
 )
 joined_made c l ts p has Bound vs s d lt us a q g = absurd (bound_stops c p.2 us a.0 lt a.1 a.2)
 
-pub chain_on_sound : (go : Readers) → Sound go → (c : Connective) (l : Nesting) (ts : Tokens) (r : Read Expr) → Yields r (Formed go.limit (λ e. tighter c e) l ts) → Yields (chain_on go c r) (ChainFront go.limit c l ts)
+pub chain_on_sound : (go : Readers) → Sound go → (c : Connective) (l : Nesting) (ts : Tokens) (r : Read Expr) → Yields r (Formed go.limit (λ e. operand_form c e) l ts) → Yields (chain_on go c r) (ChainFront go.limit c l ts)
 chain_on_sound go sound c l ts r f = bind f (λ p f. cases
     (λ us a. room go.limit p.1 (with_mark p.1) us _ (λ has. bind (sound.expr (start.Chain c) (with_mark p.1) us) (λ q g. here (joined_made c l ts p has f.0 f.1 f.2 f.3 f.4 us ((after_yields (sign c) p.2).holds us a) q g))))
     (λ a. here (f.0, f.1, f.2, Derives.alone c f.0 l p.1 f.1 p.0 f.3, alone_ends c f.0 p.2 a f.4)))
 
-pub between_sound : (go : Readers) → Sound go → (c : Connective) (l : Nesting) (ts : Tokens) → Yields (between_with go c l ts) (Formed go.limit (λ e. tighter c e) l ts)
+pub between_sound : (go : Readers) → Sound go → (c : Connective) (l : Nesting) (ts : Tokens) → Yields (between_with go c l ts) (Formed go.limit (λ e. operand_form c e) l ts)
 between_sound go sound connective.And l ts = operand_sound go sound l ts
 between_sound go sound connective.Or l ts = chain_on_sound go sound connective.And l ts (operand_with go l ts) (operand_sound go sound l ts)
 between_sound go sound connective.Implies l ts =

@@ -14,7 +14,7 @@ use Rattle.pvs_syntax.specs.Trees.{Origin, has_entries, same_place, is_identifie
 use Rattle.pvs_syntax.proofs.TreeLaws.{truth_is, name_term_is, apply_is, project_is, paren_is, tuple_is, cond_is, binder_is, let_is, not_is, infix_is, name_type_is, fun_type_is, tuple_type_is, sub_type_is, pred_type_is, expr_actual_is, type_actual_is, untyped_is, typed_is, inst_is, untyped_part_is, typed_part_is, simple_name_is, name_with_theory_is}
 use Rattle.pvs_parser.specs.declared.nesting.Nesting.{Nesting}
 use Rattle.pvs_parser.specs.declared.terminal.Terminal.{Terminal}
-use Rattle.pvs_parser.specs.Language.{Tokens, IsBelow, Derives, Plain, Form, Item, ItemTree, Nonterminal, form, item, list, name, inst, type_, TreeOf, bounded, tighter, whole, operator, group_tree, empty_word}
+use Rattle.pvs_parser.specs.Language.{Tokens, IsBelow, Derives, Plain, Form, Item, ItemTree, Nonterminal, form, item, list, name, inst, type_, TreeOf, language_limit, operand_form, whole, operator, group_tree, empty_word}
 use Rattle.pvs_parser.specs.FirstTokens.{StartsAt}
 use Rattle.pvs_parser.proofs.FirstTokens.{front, moved}
 use Rattle.pvs_parser.proofs.TreeTokens.{IsTerminalOf, AreTerminalsOf, prefix_are, rest_are, identifier_in, number_in, same_places}
@@ -73,16 +73,16 @@ missing_in o t ts at h s =
 
 -- ---- The grammar.
 
-pub is_in : (o : Origin) (s : Nonterminal) (l : Nesting) (ts : Tokens) (x : TreeOf s) (m : Nesting) → Derives bounded s l ts x m → AreTerminalsOf o ts → IsIn o s ts x
+pub is_in : (o : Origin) (s : Nonterminal) (l : Nesting) (ts : Tokens) (x : TreeOf s) (m : Nesting) → Derives language_limit s l ts x m → AreTerminalsOf o ts → IsIn o s ts x
 is_in o _ _ _ _ _ (Derives.one i l m ts x d) h = record { some = omega arith; most = omega arith; items = both_true (is_in o (item i) l ts x m d h) refl }
 is_in o _ _ _ _ _ (Derives.more i l k m ts us x xs t d is e lt) h =
     let a = rest_are o ts (t ∷ us) h in
     let r = is_in o (list i) _ us xs m e a.1 in
     record { some = omega arith; most = omega (arith, lt); items = both_true (is_in o (item i) l ts x k d (prefix_are o ts (t ∷ us) h)) r.items }
 is_in o _ _ _ _ _ (Derives.expression e l m ts x d) h = is_in o (whole e) l ts x m d h
-is_in o _ _ _ _ _ (Derives.alone c e l m ts x d) h = is_in o (form (tighter c e)) l ts x m d h
+is_in o _ _ _ _ _ (Derives.alone c e l m ts x d) h = is_in o (form (operand_form c e)) l ts x m d h
 is_in o _ _ _ _ _ (Derives.joined c e l k m ts us x y t d is lt f) h =
-    infix_is o (operator c) x y ∙ both_true (is_in o (form (tighter c Plain)) l ts x k d (prefix_are o ts (t ∷ us) h)) (is_in o (form (Form.Chain c e)) _ us y m f (rest_are o ts (t ∷ us) h).1)
+    infix_is o (operator c) x y ∙ both_true (is_in o (form (operand_form c Plain)) l ts x k d (prefix_are o ts (t ∷ us) h)) (is_in o (form (Form.Chain c e)) _ us y m f (rest_are o ts (t ∷ us) h).1)
 is_in o _ _ _ _ _ (Derives.compared l m ts x d) h = is_in o (form Form.Comparisons) l ts x m d h
 is_in o _ _ _ _ _ (Derives.prefixed e l m ts x d) h = is_in o (form (Form.Prefixed e)) l ts x m d h
 is_in o _ _ _ _ _ (Derives.compared_prefixed e l k m ts us x y w t d is lt f) h =

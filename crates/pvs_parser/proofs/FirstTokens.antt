@@ -9,7 +9,7 @@ use Rattle.pvs_syntax.proofs.PlaceLaws.{truth_place, name_term_place, apply_plac
 use Rattle.pvs_parser.specs.declared.nesting.Nesting.{Nesting}
 use Rattle.pvs_parser.specs.declared.terminal.Connective.{Connective}
 use Rattle.pvs_parser.specs.declared.terminal.Connective.TheVariants as connective
-use Rattle.pvs_parser.specs.Language.{Limit, Tokens, Derives, Plain, Form, Ending, Nonterminal, form, item, list, name, inst, type_, TreeOf, tighter, whole, group_tree, operator}
+use Rattle.pvs_parser.specs.Language.{Limit, Tokens, Derives, Plain, Form, Ending, Nonterminal, form, item, list, name, inst, type_, TreeOf, operand_form, whole, group_tree, operator}
 use Rattle.pvs_parser.specs.FirstTokens.{StartsAt}
 
 pub front : (ts us : Tokens) (pos : Pos) → StartsAt ts pos → StartsAt (ts ++ us) pos
@@ -27,7 +27,7 @@ Begins inst ts x = StartsAt ts (place_of_inst x)
 Begins type_ ts x = StartsAt ts (place_of_type x)
 Begins _ ts x = Unit {0}
 
-operand_begins : (c : Connective) (e : Ending) (ts : Tokens) (x : Expr) → Begins (form (tighter c e)) ts x → StartsAt ts (place_of x)
+operand_begins : (c : Connective) (e : Ending) (ts : Tokens) (x : Expr) → Begins (form (operand_form c e)) ts x → StartsAt ts (place_of x)
 operand_begins connective.Iff e ts x h = h
 operand_begins connective.Implies e ts x h = h
 operand_begins connective.Or e ts x h = h
@@ -39,9 +39,9 @@ group_place pos (x ∷ []) = paren_place x pos
 group_place pos (x ∷ y ∷ xs) = tuple_place (x ∷ y ∷ xs) pos
 
 begins : {limit : Limit} (s : Nonterminal) (l : Nesting) (ts : Tokens) (x : TreeOf s) (m : Nesting) → Derives limit s l ts x m → Begins s ts x
-begins _ _ _ _ _ (Derives.alone c e l m ts x d) = operand_begins c e ts x (begins (form (tighter c e)) l ts x m d)
+begins _ _ _ _ _ (Derives.alone c e l m ts x d) = operand_begins c e ts x (begins (form (operand_form c e)) l ts x m d)
 begins _ _ _ _ _ (Derives.joined c e l k m ts us x y t d is lt f) =
-    moved _ _ _ (infix_place (operator c) x y) (front ts (t ∷ us) _ (operand_begins c Plain ts x (begins (form (tighter c Plain)) l ts x k d)))
+    moved _ _ _ (infix_place (operator c) x y) (front ts (t ∷ us) _ (operand_begins c Plain ts x (begins (form (operand_form c Plain)) l ts x k d)))
 begins _ _ _ _ _ (Derives.compared l m ts x d) = begins (form Form.Comparisons) l ts x m d
 begins _ _ _ _ _ (Derives.prefixed e l m ts x d) = begins (form (Form.Prefixed e)) l ts x m d
 begins _ _ _ _ _ (Derives.compared_prefixed e l k m ts us x y w t d is lt f) = moved _ _ _ (infix_place w x y) (front ts (t ∷ us) _ (begins (form Form.Comparisons) l ts x k d))

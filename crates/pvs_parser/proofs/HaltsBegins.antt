@@ -19,7 +19,7 @@ use Rattle.pvs_syntax.specs.declared.expression.LetPart.{LetPart}
 use Rattle.pvs_syntax.specs.declared.expression.TypeExpr.{TypeExpr}
 use Rattle.pvs_syntax.specs.declared.expression.TypeExpr.TheVariants as type_expr
 use Rattle.pvs_parser.specs.Terminals.{Is, IsId, is_id}
-use Rattle.pvs_parser.specs.Language.{Limit, Tokens, IsBelow, HasRoom, level, Derives, Ending, Plain, Bound, Form, Item, Nonterminal, form, item, list, name, inst, type_, TreeOf, ItemTree, in_frame, without_marks, with_mark, with_lasting_mark, before_call, simple_name, tighter, sign, comparison, binder_word, begins_type, whole}
+use Rattle.pvs_parser.specs.Language.{Limit, Tokens, IsBelow, HasRoom, level, Derives, Ending, Plain, Bound, Form, Item, Nonterminal, form, item, list, name, inst, type_, TreeOf, ItemTree, in_frame, without_marks, with_mark, with_lasting_mark, before_call, simple_name, operand_form, sign, comparison, binder_word, begins_type, whole}
 use Rattle.pvs_parser.specs.Descent.{starts_expr, starts_type, starts_item}
 use Rattle.pvs_parser.proofs.Nonempty.{nonempty}
 use Rattle.pvs_parser.proofs.Gets.{both}
@@ -451,10 +451,10 @@ pub compared_prefixed_begun : {w : Limit} {l k : Nesting} {vs p : Tokens} {x : E
 compared_prefixed_begun {l = l} {k = k} {vs = vs} {x = x} {o = o} t d is lt g =
     let c = g.1 in (g.0, made (glue both (put refl c.split)) (Derives.compared_prefixed g.0 l k c.behind vs c.all x c.tree o t d is lt c.derives))
 
-pub alone_begun : {w : Limit} (c : Connective) {l : Nesting} {p : Tokens} → Begun w (λ e. tighter c e) l p → Begun w (λ e. Form.Chain c e) l p
+pub alone_begun : {w : Limit} (c : Connective) {l : Nesting} {p : Tokens} → Begun w (λ e. operand_form c e) l p → Begun w (λ e. Form.Chain c e) l p
 alone_begun c {l = l} g = let z = g.1 in (g.0, made z.split (Derives.alone c g.0 l z.behind z.all z.tree z.derives))
 
-pub joined_begun : {w : Limit} (c : Connective) {l k : Nesting} {vs p : Tokens} {x : Expr} (t : Terminal) → Derives w (form (tighter c Plain)) l vs x k → Is (sign c) t → HasRoom w k → Begun w (λ e. Form.Chain c e) (with_mark k) p
+pub joined_begun : {w : Limit} (c : Connective) {l k : Nesting} {vs p : Tokens} {x : Expr} (t : Terminal) → Derives w (form (operand_form c Plain)) l vs x k → Is (sign c) t → HasRoom w k → Begun w (λ e. Form.Chain c e) (with_mark k) p
     → Begun w (λ e. Form.Chain c e) l (vs ++ t ∷ p)
 joined_begun c {l = l} {k = k} {vs = vs} {x = x} t d is lt g =
     let z = g.1 in (g.0, made (glue both (put refl z.split)) (Derives.joined c g.0 l k z.behind vs z.all x z.tree t d is lt z.derives))

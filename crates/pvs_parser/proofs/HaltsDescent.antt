@@ -20,7 +20,7 @@ use Rattle.pvs_syntax.specs.declared.expression.Expr.{Expr}
 use Rattle.pvs_syntax.specs.declared.expression.Expr.TheVariants as expr
 use Rattle.pvs_syntax.specs.declared.expression.InfixWord.{InfixWord}
 use Rattle.pvs_parser.specs.Terminals.{Is, IsId, is_id}
-use Rattle.pvs_parser.specs.Language.{Limit, Tokens, IsBelow, HasRoom, level, Derives, Ending, Plain, Bound, Form, Item, form, item, list, name, inst, type_, ItemTree, in_frame, without_marks, with_mark, with_lasting_mark, tighter, sign, operator, instance, before_call, comparison, binder_word, begins_type}
+use Rattle.pvs_parser.specs.Language.{Limit, Tokens, IsBelow, HasRoom, level, Derives, Ending, Plain, Bound, Form, Item, form, item, list, name, inst, type_, ItemTree, in_frame, without_marks, with_mark, with_lasting_mark, operand_form, sign, operator, instance, before_call, comparison, binder_word, begins_type}
 use Rattle.pvs_parser.specs.Descent.{Read, Readers, stop, expect, too_many, starts_item, end_of_list, entries, nested_expr, list_from, list_with, framed_with, mark, name_of, name_after, cond_with, first_of, first_with, call_with, project, term_from, term_with, body_with, binder_with, let_with, not_with, prefix, prefixed_with, compared_from, operand_with, chain_on, between_with, chain_with, otherwise_of, otherwise_with, tuple_type, fun_type_with, base_with, sub_type_with, type_of, type_with, parameter_of, parameter_with, unnamed_with, component_with, variable_with, definition_with, item_with, next_readers, expr_with, reader}
 use Rattle.pvs_base.specs.Answers.{◌>>=◌}
 use Rattle.pvs_parser.proofs.Yields.{Yields}
@@ -412,7 +412,7 @@ module _ (go : Readers) (sound : Sound go) (a : ℕ) (halting : Halting go a) wh
       (bind (term_sound go sound l ts) (into (term_stops l ts small) first (λ w wide p g. term_begun g)) (λ p f.
       compared_from_stops (length ts) p.0 l p.1 ts f.1 p.2 f.2 (Derives.term f.0 l p.1 f.1 p.0 f.3) (rest_le a f.2 small)))
 
-  chain_sign_stops : (c : Connective) (l : Nesting) (ts : Tokens) (p : Expr × Nesting × Tokens) (e : Ending) (vs : Tokens) → Splits ts vs p.2 → Derives go.limit (form (tighter c e)) l vs p.0 p.1 → pull_of p.2 < reach (tighter c e)
+  chain_sign_stops : (c : Connective) (l : Nesting) (ts : Tokens) (p : Expr × Nesting × Tokens) (e : Ending) (vs : Tokens) → Splits ts vs p.2 → Derives go.limit (form (operand_form c e)) l vs p.0 p.1 → pull_of p.2 < reach (operand_form c e)
       → (us : Tokens) → Comes (sign c) p.2 us → length p.2 ≤ a
       → Stops {A = Expr × Nesting × Tokens} (mark go.limit p.1 us >>= λ m. go.expr (start.Chain c) m us >>= λ q. Ok (expr.Infix (operator c) p.0 q.0, q.1, q.2)) (Halts go.limit (λ w q. Begun w (λ e. Form.Chain c e) l q) ts)
   chain_sign_stops c l ts p Plain vs s d lt us b small =
@@ -420,7 +420,7 @@ module _ (go : Readers) (sound : Sound go) (a : ℕ) (halting : Halting go a) wh
       then_ (into (halting.expr (start.Chain c) (with_mark p.1) us (next_le a b.1 small)) (past s (behind b.1 first)) (λ w wide q g. joined_begun c b.0 (wider wide d) b.2 (wide.below (level p.1) has) g)) (λ q. goes))
   chain_sign_stops c l ts p Bound vs s d lt us b small = absurd (bound_stops c p.2 us b.0 lt b.1 b.2)
 
-  chain_on_stops : (c : Connective) (l : Nesting) (ts : Tokens) (r : Read Expr) → Yields r (Formed go.limit (λ e. tighter c e) l ts) → Stops r (Halts go.limit (λ w p. Begun w (λ e. tighter c e) l p) ts) → length ts ≤ a
+  chain_on_stops : (c : Connective) (l : Nesting) (ts : Tokens) (r : Read Expr) → Yields r (Formed go.limit (λ e. operand_form c e) l ts) → Stops r (Halts go.limit (λ w p. Begun w (λ e. operand_form c e) l p) ts) → length ts ≤ a
       → Stops (chain_on go c r) (Halts go.limit (λ w p. Begun w (λ e. Form.Chain c e) l p) ts)
   chain_on_stops c l ts r y g small = bind y (into g first (λ w wide p g. alone_begun c g)) (λ p f. cases
       (λ us e. chain_sign_stops c l ts p f.0 f.1 f.2 f.3 f.4 us ((after_yields (sign c) p.2).holds us e) (rest_le a f.2 small))
@@ -432,7 +432,7 @@ module _ (go : Readers) (sound : Sound go) (a : ℕ) (halting : Halting go a) wh
   or_stops : (l : Nesting) (ts : Tokens) → length ts ≤ a → Stops (chain_on go connective.Or (chain_on go connective.And (operand_with go l ts))) (Halts go.limit (λ w p. Begun w (λ e. Form.Chain connective.Or e) l p) ts)
   or_stops l ts small = chain_on_stops connective.Or l ts (between_with go connective.Or l ts) (between_sound go sound connective.Or l ts) (and_stops l ts small) small
 
-  between_stops : (c : Connective) (l : Nesting) (ts : Tokens) → length ts ≤ a → Stops (between_with go c l ts) (Halts go.limit (λ w p. Begun w (λ e. tighter c e) l p) ts)
+  between_stops : (c : Connective) (l : Nesting) (ts : Tokens) → length ts ≤ a → Stops (between_with go c l ts) (Halts go.limit (λ w p. Begun w (λ e. operand_form c e) l p) ts)
   between_stops connective.And l ts small = operand_stops l ts small
   between_stops connective.Or l ts small = and_stops l ts small
   between_stops connective.Implies l ts small = or_stops l ts small

@@ -16,7 +16,7 @@ use Rattle.pvs_syntax.specs.declared.unit.Decl.{Decl}
 use Rattle.pvs_syntax.specs.declared.unit.Formal.{Formal}
 use Rattle.pvs_syntax.specs.declared.unit.FormulaWord.{FormulaWord}
 use Rattle.pvs_parser.specs.Terminals.{IsId, is_id}
-use Rattle.pvs_parser.specs.Language.{Limit, Tokens, Derives, Plain, Form, Item, Nonterminal, form, item, list, name, inst, type_, TreeOf, with_lasting_mark, without_marks, in_frame, with_mark, before_call, tighter, sign, comparison, binder_word, whole, outermost}
+use Rattle.pvs_parser.specs.Language.{Limit, Tokens, Derives, Plain, Form, Item, Nonterminal, form, item, list, name, inst, type_, TreeOf, with_lasting_mark, without_marks, in_frame, with_mark, before_call, operand_form, sign, comparison, binder_word, whole, outermost}
 use Rattle.pvs_parser.specs.Units.{DerivesIds, DerivesTypeWord, DerivesFormal, DerivesFormals, DerivesFormalPart, DerivesInstances, DerivesImporting, DerivesVariables, DerivesParameters, DerivesBody, DerivesDecl, DerivesAssumed, DerivesSemicolon, DerivesMany, DerivesAssuming, formula_of}
 
 -- ---- tokens of which none is END
@@ -69,9 +69,9 @@ pub no_end : {limit : Limit} (s : Nonterminal) (l : Nesting) (ts : Tokens) (x : 
 no_end _ _ _ _ _ (Derives.one i l m ts x d) = no_end (item i) l ts x m d
 no_end _ _ _ _ _ (Derives.more i l k m ts us x xs t d is e lt) = joined ts (t ∷ us) (no_end (item i) l ts x k d) (ap is_end is, no_end (list i) (without_marks k) us xs m e)
 no_end _ _ _ _ _ (Derives.expression e l m ts x d) = no_end (whole e) l ts x m d
-no_end _ _ _ _ _ (Derives.alone c e l m ts x d) = no_end (form (tighter c e)) l ts x m d
+no_end _ _ _ _ _ (Derives.alone c e l m ts x d) = no_end (form (operand_form c e)) l ts x m d
 no_end _ _ _ _ _ (Derives.joined c e l k m ts us x y t d is lt f) =
-    joined ts (t ∷ us) (no_end (form (tighter c Plain)) l ts x k d) (ap is_end is ∙ sign_kind c, no_end (form (Form.Chain c e)) (with_mark k) us y m f)
+    joined ts (t ∷ us) (no_end (form (operand_form c Plain)) l ts x k d) (ap is_end is ∙ sign_kind c, no_end (form (Form.Chain c e)) (with_mark k) us y m f)
 no_end _ _ _ _ _ (Derives.compared l m ts x d) = no_end (form Form.Comparisons) l ts x m d
 no_end _ _ _ _ _ (Derives.prefixed e l m ts x d) = no_end (form (Form.Prefixed e)) l ts x m d
 no_end _ _ _ _ _ (Derives.compared_prefixed e l k m ts us x y w t d is lt f) =

@@ -1,16 +1,16 @@
 -- What is derived within a limit is derived within a wider one.
 use Rattle.std.proofs.Common.{length}
 use Rattle.pvs_parser.specs.declared.nesting.Nesting.{Nesting}
-use Rattle.pvs_parser.specs.Language.{Limit, Tokens, Derives, Plain, Form, Item, Nonterminal, form, item, list, name, inst, type_, TreeOf, level, with_lasting_mark, without_marks, in_frame, with_mark, before_call, tighter, whole}
+use Rattle.pvs_parser.specs.Language.{Limit, Tokens, Derives, Plain, Form, Item, Nonterminal, form, item, list, name, inst, type_, TreeOf, level, with_lasting_mark, without_marks, in_frame, with_mark, before_call, operand_form, whole}
 use Rattle.pvs_parser.proofs.Halts.{Wider}
 
 pub widen : {limit w : Limit} → Wider limit w → (s : Nonterminal) (l : Nesting) (ts : Tokens) (x : TreeOf s) (m : Nesting) → Derives limit s l ts x m → Derives w s l ts x m
 widen wide _ _ _ _ _ (Derives.one i l m ts x d) = Derives.one i l m ts x (widen wide (item i) l ts x m d)
 widen wide _ _ _ _ _ (Derives.more i l k m ts us x xs t d is e lt) = Derives.more i l k m ts us x xs t (widen wide (item i) l ts x k d) is (widen wide (list i) (without_marks k) us xs m e) (wide.below (length xs) lt)
 widen wide _ _ _ _ _ (Derives.expression e l m ts x d) = Derives.expression e l m ts x (widen wide (whole e) l ts x m d)
-widen wide _ _ _ _ _ (Derives.alone c e l m ts x d) = Derives.alone c e l m ts x (widen wide (form (tighter c e)) l ts x m d)
+widen wide _ _ _ _ _ (Derives.alone c e l m ts x d) = Derives.alone c e l m ts x (widen wide (form (operand_form c e)) l ts x m d)
 widen wide _ _ _ _ _ (Derives.joined c e l k m ts us x y t d is lt f) =
-    Derives.joined c e l k m ts us x y t (widen wide (form (tighter c Plain)) l ts x k d) is (wide.below (level k) lt) (widen wide (form (Form.Chain c e)) (with_mark k) us y m f)
+    Derives.joined c e l k m ts us x y t (widen wide (form (operand_form c Plain)) l ts x k d) is (wide.below (level k) lt) (widen wide (form (Form.Chain c e)) (with_mark k) us y m f)
 widen wide _ _ _ _ _ (Derives.compared l m ts x d) = Derives.compared l m ts x (widen wide (form Form.Comparisons) l ts x m d)
 widen wide _ _ _ _ _ (Derives.prefixed e l m ts x d) = Derives.prefixed e l m ts x (widen wide (form (Form.Prefixed e)) l ts x m d)
 widen wide _ _ _ _ _ (Derives.compared_prefixed e l k m ts us x y w t d is lt f) =

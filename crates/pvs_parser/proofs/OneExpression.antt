@@ -2,7 +2,7 @@
 use Rattle.std.proofs.Common.{◌≡◌, ◌∙◌, ◌+◌, [], ◌∷◌, ◌++◌, length, Ok, refl, sym, ap, subst, append-nil, arith}
 use Rattle.pvs_parser.specs.declared.nesting.Nesting.{Nesting}
 use Rattle.pvs_syntax.specs.declared.expression.Expr.{Expr}
-use Rattle.pvs_parser.specs.Language.{Limit, Tokens, Derives, Ending, bounded, outermost, whole, ReadsExpr}
+use Rattle.pvs_parser.specs.Language.{Limit, Tokens, Derives, Ending, language_limit, outermost, whole, ReadsExpr}
 use Rattle.pvs_parser.specs.Descent.{Answer, at_end, expression}
 use Rattle.pvs_parser.proofs.Yields.{Yields, here, none, bind, weaken}
 use Rattle.pvs_parser.proofs.Gets.{then_, found}
@@ -38,4 +38,4 @@ ok_same : (x y : Expr) → answer (Ok x) ≡ Ok y → x ≡ y
 ok_same x y e = cc
 
 pub one_expr : (ts : Tokens) (x y : Expr) → ReadsExpr ts x → ReadsExpr ts y → x ≡ y
-one_expr ts x y r s = ok_same x y (sym (expression_complete bounded ts x r) ∙ expression_complete bounded ts y s)
+one_expr ts x y r s = ok_same x y (sym (expression_complete language_limit ts x r) ∙ expression_complete language_limit ts y s)

@@ -11,7 +11,7 @@ use Rattle.pvs_syntax.specs.declared.unit.Item.TheVariants as item
 use Rattle.pvs_syntax.specs.declared.unit.Proof.{Proof}
 use Rattle.pvs_syntax.specs.declared.unit.Unit as tree
 use Rattle.pvs_parser.specs.declared.terminal.Terminal.{Terminal}
-use Rattle.pvs_parser.specs.Language.{Limit, Tokens, bounded}
+use Rattle.pvs_parser.specs.Language.{Limit, Tokens, language_limit}
 use Rattle.pvs_parser.specs.Units.{DerivesProof, DerivesItems}
 use Rattle.pvs_parser.specs.Text.{terminal, terminals_of_text, first_place, Reads, SpanIn, SpansIn}
 
@@ -72,4 +72,4 @@ items_in limit text from _ _ (DerivesItems.proof ts us p is d e) s =
     All-cons (SpanIn text) (item.Proof p) is (front_proof limit text from (length text) ts us p d s) (items_in limit text b.0 us is e b.2)
 
 pub spans_in : (text : List ℕ) (u : tree.Unit) → Reads text u → SpansIn text u
-spans_in text u r = items_in bounded text 0 (terminals_of_text text).tokens u.items r.derives (text_spans text)
+spans_in text u r = items_in language_limit text 0 (terminals_of_text text).tokens u.items r.derives (text_spans text)

@@ -7,7 +7,7 @@ use Rattle.pvs_base.specs.declared.place.Pos.{Pos}
 use Rattle.pvs_base.specs.Place.{place_after}
 use Rattle.pvs_syntax.specs.declared.expression.Expr.{Expr}
 use Rattle.pvs_syntax.specs.declared.unit.Unit as tree
-use Rattle.pvs_parser.specs.Language.{IsBelow, bounded}
+use Rattle.pvs_parser.specs.Language.{IsBelow, language_limit}
 use Rattle.pvs_parser.specs.Descent.{Answer, expression}
 use Rattle.pvs_parser.specs.UnitDescent.{unit}
 use Rattle.pvs_parser.specs.Faults.{AwaitsName}
@@ -45,21 +45,21 @@ small_of : {A : Type 0} (n : ℕ) (b : Bool) → nat_lt (2 ^ 20) n ≡ b → (f 
 small_of n true is f r x e = cc
 small_of n false is f r x e = (ltb-false (2 ^ 20) n is, e)
 
-some_bounded : IsBelow bounded 0
+some_bounded : IsBelow language_limit 0
 some_bounded = omega arith
 
 pub text_sound : (text : List ℕ) (u : tree.Unit) → read_text text ≡ Ok u → Reads text u
 text_sound text u e =
     let ts : Terminals = terminals_of_text text in
-    let s = small_of (length text) (nat_lt (2 ^ 20) (length text)) refl (record { pos = first_place; code = code.TextTooLong }) (tree_or_fault (place_after first_place text) ts (unit bounded text ts.tokens)) u e in
-    let j = judged_ok (place_after first_place text) ts (unit bounded text ts.tokens) u s.1 in
-    record { small = s.0; faultless = j.0; derives = unit_sound bounded text ts.tokens u j.1 }
+    let s = small_of (length text) (nat_lt (2 ^ 20) (length text)) refl (record { pos = first_place; code = code.TextTooLong }) (tree_or_fault (place_after first_place text) ts (unit language_limit text ts.tokens)) u e in
+    let j = judged_ok (place_after first_place text) ts (unit language_limit text ts.tokens) u s.1 in
+    record { small = s.0; faultless = j.0; derives = unit_sound language_limit text ts.tokens u j.1 }
 
 pub text_complete : (text : List ℕ) (u : tree.Unit) → Reads text u → read_text text ≡ Ok u
 text_complete text u r =
     let ts : Terminals = terminals_of_text text in
-    ap (λ b. if b then Err (record { pos = first_place; code = code.TextTooLong }) else tree_or_fault (place_after first_place text) ts (unit bounded text ts.tokens)) (le-ltb (2 ^ 20) (length text) r.small)
-    ∙ judged_is (place_after first_place text) ts (unit bounded text ts.tokens) u r.faultless (unit_complete bounded some_bounded text ts.tokens u r.derives)
+    ap (λ b. if b then Err (record { pos = first_place; code = code.TextTooLong }) else tree_or_fault (place_after first_place text) ts (unit language_limit text ts.tokens)) (le-ltb (2 ^ 20) (length text) r.small)
+    ∙ judged_is (place_after first_place text) ts (unit language_limit text ts.tokens) u r.faultless (unit_complete language_limit some_bounded text ts.tokens u r.derives)
 
 unit_same : (o : Result tree.Unit Fault) (u v : tree.Unit) → o ≡ Ok u → o ≡ Ok v → u ≡ v
 unit_same o u v f g = cc
@@ -88,7 +88,7 @@ err_same : (o : Result tree.Unit Fault) (f g : Fault) → o ≡ Err f → o ≡ 
 err_same o f g e h = cc
 
 fault_of_text : (text : List ℕ) (f : Fault) (b : Bool) → nat_lt (2 ^ 20) (length text) ≡ b
-    → (if b then Err (record { pos = first_place; code = code.TextTooLong }) else tree_or_fault (place_after first_place text) (terminals_of_text text) (unit bounded text (terminals_of_text text).tokens)) ≡ Err f → IsFirstFault text f
+    → (if b then Err (record { pos = first_place; code = code.TextTooLong }) else tree_or_fault (place_after first_place text) (terminals_of_text text) (unit language_limit text (terminals_of_text text).tokens)) ≡ Err f → IsFirstFault text f
 fault_of_text text f true is e = subst (λ z. IsFirstFault text z) (err_same (Err (record { pos = first_place; code = code.TextTooLong })) (record { pos = first_place; code = code.TextTooLong }) f refl e) (IsFirstFault.too_long (ltb-true (2 ^ 20) (length text) is))
 fault_of_text text f false is e =
     IsFirstFault.first (ltb-false (2 ^ 20) (length text) is) f (first_fault (IsUnit text) AwaitsName (λ limit ts. unit limit text ts) (unit_reading text) (place_after first_place text) (terminals_of_text text) f e)
@@ -106,13 +106,13 @@ text_answer text = answer_of text (read_text text) refl
 pub span_sound : (text : List ℕ) (start end : ℕ) (pos : Pos) (x : Expr) → read_span text start end pos ≡ Ok x → ReadsSpan text start end pos x
 span_sound text start end pos x e =
     let ts : Terminals = terminals_of_span text start end pos in
-    let j = judged_ok (place_after pos (span_of text start end)) ts (expression bounded ts.tokens) x e in
-    record { faultless = j.0; reads = expression_sound bounded ts.tokens x j.1 }
+    let j = judged_ok (place_after pos (span_of text start end)) ts (expression language_limit ts.tokens) x e in
+    record { faultless = j.0; reads = expression_sound language_limit ts.tokens x j.1 }
 
 pub span_complete : (text : List ℕ) (start end : ℕ) (pos : Pos) (x : Expr) → ReadsSpan text start end pos x → read_span text start end pos ≡ Ok x
 span_complete text start end pos x r =
     let ts : Terminals = terminals_of_span text start end pos in
-    judged_is (place_after pos (span_of text start end)) ts (expression bounded ts.tokens) x r.faultless (expression_complete bounded ts.tokens x r.reads)
+    judged_is (place_after pos (span_of text start end)) ts (expression language_limit ts.tokens) x r.faultless (expression_complete language_limit ts.tokens x r.reads)
 
 expr_same : (o : Result Expr Fault) (x y : Expr) → o ≡ Ok x → o ≡ Ok y → x ≡ y
 expr_same o x y f g = cc

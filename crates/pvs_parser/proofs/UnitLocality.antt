@@ -24,7 +24,7 @@ use Rattle.pvs_parser.specs.Units.{DerivesDecl, DerivesAssumed, type_formal, con
 use Rattle.pvs_syntax.specs.Words.{spelling}
 use Rattle.pvs_parser.specs.Descent.{Answer, Read, either, stop, too_many, too_deep, after, expect, id, is_below, end_of_list, list_from, entries}
 use Rattle.pvs_base.specs.Answers.{◌>>=◌}
-use Rattle.pvs_parser.specs.UnitDescent.{expr, type, name, ids, actuals, inst, instances_from, importing, plus, formal_of, formal_after, formal, formals_from, formals, formal_part, variables, body, constant, function, constants, type_definition, type_decls, types, formula, formulas, formulas_or_constants, decls_of_kind, decls_after_colon, declaration_of_names, declaration_from_id, declaration, assuming_decls_of_kind, assuming_decls_after_colon, assuming_decl, comes_kind, comes_decl, past_semicolon, many_from, declarations, assumptions, assuming_part, heading, same_name, ending, theory, balanced_of, balanced, script, target, proof, one_item, items_from, unit}
+use Rattle.pvs_parser.specs.UnitDescent.{expr, type, name, ids, actuals, inst, instances_from, importing, plus, formal_of, formal_after, formal, formals_from, formals, formal_part, variables, body, constant, function, constants, type_definition, type_decls, types, formula, formulas, formulas_or_constants, decls_of_kind, decls_after_colon, declaration_of_names, declaration_from_id, declaration, assuming_decls_of_kind, assuming_decls_after_colon, assuming_decl, comes_kind, comes_decl, past_semicolon, many_from, declarations, assumptions, assuming_part, heading, same_name, ending, theory, closing_parenthesis_of, closing_parenthesis, script, target, proof, one_item, items_from, unit}
 use Rattle.pvs_parser.proofs.Yields.{Yields}
 use Rattle.pvs_parser.proofs.Deeper.{Fore}
 use Rattle.pvs_parser.proofs.Decls.{declaration_sound, assumed_sound}
@@ -525,7 +525,7 @@ open_goes cut u a b rooms n mode m o p ts us t h = one (is_below a n) (is_below 
     other (inl e) = inl e
     other (inr e) = inr (ap (λ z. if z then p else too_deep us) e)
 
-balanced_of_past : (cut : Cut) (a : Limit) (n : ℕ) (t : Terminal) (ts : Tokens) (go : ℕ → Answer (Word × Tokens)) → length ts < length cut.here → ((i : ℕ) → Shrinks cut two (go i)) → (k : TerminalKind) → Shrinks cut two (balanced_of a n t ts go k)
+balanced_of_past : (cut : Cut) (a : Limit) (n : ℕ) (t : Terminal) (ts : Tokens) (go : ℕ → Answer (Word × Tokens)) → length ts < length cut.here → ((i : ℕ) → Shrinks cut two (go i)) → (k : TerminalKind) → Shrinks cut two (closing_parenthesis_of a n t ts go k)
 balanced_of_past cut a n t ts go h g kind.Open = one (is_below a (suc n)) where
   one : (x : Bool) → Shrinks cut two (if x then go (suc n) else too_deep ts)
   one true = g (suc n)
@@ -534,31 +534,31 @@ balanced_of_past cut a zero t ts go h g kind.Close = omega (arith, h)
 balanced_of_past cut a (suc n) t ts go h g kind.Close = g n
 balanced_of_past cut a n t ts go h g _ = g n
 
-balanced_past : (cut : Cut) (a : Limit) (ts : Tokens) (n : ℕ) → length ts ≤ length cut.here → Shrinks cut two (balanced a n ts)
-unfolding balanced
+balanced_past : (cut : Cut) (a : Limit) (ts : Tokens) (n : ℕ) → length ts ≤ length cut.here → Shrinks cut two (closing_parenthesis a n ts)
+unfolding closing_parenthesis
 balanced_past cut a [] n h = h
-balanced_past cut a (t ∷ ts) n h = balanced_of_past cut a n t ts (λ i. balanced a i ts) (omega (arith, h)) (λ i. balanced_past cut a ts i (omega (arith, h))) t.kind
+balanced_past cut a (t ∷ ts) n h = balanced_of_past cut a n t ts (λ i. closing_parenthesis a i ts) (omega (arith, h)) (λ i. balanced_past cut a ts i (omega (arith, h))) t.kind
 
 balanced_of_goes : (cut : Cut) (a b : Limit) → Rooms cut a b → (n m : ℕ) (t : Terminal) (q : Tokens) → length q ≤ m → (go other : ℕ → Answer (Word × Tokens)) → ((i : ℕ) → Agrees cut two m (go i) (other i)) → (k : TerminalKind)
-    → Agrees cut two m (balanced_of a n t (q ++ cut.here) go k) (balanced_of b n t (q ++ cut.there) other k)
+    → Agrees cut two m (closing_parenthesis_of a n t (q ++ cut.here) go k) (closing_parenthesis_of b n t (q ++ cut.there) other k)
 balanced_of_goes cut a b rooms n m t q le go other g kind.Open = open_goes cut two a b rooms (suc n) Mode.Before m (go (suc n)) (other (suc n)) (q ++ cut.here) (q ++ cut.there) (q, refl, refl, le) (g (suc n))
 balanced_of_goes cut a b rooms zero m t q le go other g kind.Close = done_two cut Mode.Before m t.word (q ++ cut.here) (q ++ cut.there) (q, refl, refl, le)
 balanced_of_goes cut a b rooms (suc n) m t q le go other g kind.Close = g n
 balanced_of_goes cut a b rooms n m t q le go other g _ = g n
 
-balanced_before : (cut : Cut) (a b : Limit) → Rooms cut a b → (q : Tokens) (n m : ℕ) → length q ≤ m → Agrees cut two m (balanced a n (q ++ cut.here)) (balanced b n (q ++ cut.there))
-unfolding balanced
+balanced_before : (cut : Cut) (a b : Limit) → Rooms cut a b → (q : Tokens) (n m : ℕ) → length q ≤ m → Agrees cut two m (closing_parenthesis a n (q ++ cut.here)) (closing_parenthesis b n (q ++ cut.there))
+unfolding closing_parenthesis
 balanced_before cut a b rooms [] n m le = beyond cut two m _ _ (balanced_past cut a cut.here n (omega arith))
 balanced_before cut a b rooms (t ∷ q) n m le =
-    balanced_of_goes cut a b rooms n m t q (omega (arith, le)) (λ i. balanced a i (q ++ cut.here)) (λ i. balanced b i (q ++ cut.there)) (λ i. balanced_before cut a b rooms q i m (omega (arith, le))) t.kind
+    balanced_of_goes cut a b rooms n m t q (omega (arith, le)) (λ i. closing_parenthesis a i (q ++ cut.here)) (λ i. closing_parenthesis b i (q ++ cut.there)) (λ i. balanced_before cut a b rooms q i m (omega (arith, le))) t.kind
 
-balanced_goes : (cut : Cut) (a b : Limit) → Rooms cut a b → (n : ℕ) → Follows cut two (balanced a n) (balanced b n)
+balanced_goes : (cut : Cut) (a b : Limit) → Rooms cut a b → (n : ℕ) → Follows cut two (closing_parenthesis a n) (closing_parenthesis b n)
 balanced_goes cut a b rooms n Mode.Past m ts us i = balanced_past cut a ts n i
-balanced_goes cut a b rooms n Mode.Before m ts us i = at_front cut two m m (balanced a n) (balanced b n) ts us i (λ q le. balanced_before cut a b rooms q n m le)
+balanced_goes cut a b rooms n Mode.Before m ts us i = at_front cut two m m (closing_parenthesis a n) (closing_parenthesis b n) ts us i (λ q le. balanced_before cut a b rooms q n m le)
 
 -- what is open behind a parenthesis
 abbrev script_of : Limit → Terminal → Tokens → Answer (Word × Word × Tokens)
-script_of limit t us = balanced limit 0 us >>= λ p. Ok (t.word, p.0, p.1)
+script_of limit t us = closing_parenthesis limit 0 us >>= λ p. Ok (t.word, p.0, p.1)
 
 abbrev script_in : Limit → Terminal → Tokens → Answer (Word × Word × Tokens)
 script_in limit t us = if is_below limit 0 then script_of limit t us else too_deep us

@@ -13,7 +13,7 @@ use Rattle.pvs_parser.specs.declared.terminal.Terminal.{Terminal}
 use Rattle.pvs_parser.specs.declared.terminal.TerminalKind.{TerminalKind}
 use Rattle.pvs_parser.specs.declared.terminal.TerminalKind.TheVariants as kind
 use Rattle.pvs_parser.specs.Terminals.{Is, IsId}
-use Rattle.pvs_parser.specs.Language.{Tokens, Limit, bounded}
+use Rattle.pvs_parser.specs.Language.{Tokens, Limit, language_limit}
 
 -- ---- Codes.
 
@@ -59,8 +59,8 @@ Begins D limit ts = (more : Tokens) × D limit (ts ++ more)
 -- Tokens begin some of it within the bounds of the language. A comma after the last entry that a list may have is still
 -- within them: it is the entry after it that is one too many.
 pub data IsViablePrefix (D : Limit → Tokens → Type 0) (ts : Tokens) : Type 0 where
-  begins : Begins D bounded ts → IsViablePrefix D ts
-  comma : (us : Tokens) (t : Terminal) → ts ≡ us ++ t ∷ [] → Is kind.Comma t → Begins D bounded us → Begins D None ts → IsViablePrefix D ts
+  begins : Begins D language_limit ts → IsViablePrefix D ts
+  comma : (us : Tokens) (t : Terminal) → ts ≡ us ++ t ∷ [] → Is kind.Comma t → Begins D language_limit us → Begins D None ts → IsViablePrefix D ts
 
 -- the last of these tokens is END, after which the name of the theory has to stand
 abbrev pub AwaitsName : Tokens → Type 0
@@ -76,7 +76,7 @@ IsReason D E before t reason.Unexpected = (Begins D None (before ++ t ∷ []) �
 -- The fault after tokens that are within the bounds, of which these are the rest: at their end, where the text is not whole or a
 -- lexical fault stands; or at the first of them.
 abbrev pub IsFaultAfter : (Limit → Tokens → Type 0) → (Tokens → Type 0) → Pos → Option Fault → Tokens → Tokens → Tokens → Fault → Type 0
-IsFaultAfter D E end fault ts before [] f = (f ≡ last_fault end fault) × (fault ≡ None → D bounded ts → ⊥)
+IsFaultAfter D E end fault ts before [] f = (f ≡ last_fault end fault) × (fault ≡ None → D language_limit ts → ⊥)
 IsFaultAfter D E end fault ts before (t ∷ rest) f =
     (IsViablePrefix D (before ++ t ∷ []) → ⊥) × (why : Reason) × IsReason D E before t why × (f ≡ record { pos = t.word.pos; code = code_of ts (length before) t.kind why })
 

@@ -10,12 +10,12 @@ use Rattle.pvs_parser.specs.declared.start.Start.{Start}
 use Rattle.pvs_parser.specs.declared.terminal.TerminalKind.{TerminalKind}
 use Rattle.pvs_syntax.specs.declared.expression.Expr.{Expr}
 use Rattle.pvs_syntax.specs.declared.expression.TypeExpr.{TypeExpr}
-use Rattle.pvs_parser.specs.Language.{bounded, Tokens}
+use Rattle.pvs_parser.specs.Language.{language_limit, Tokens}
 use Rattle.pvs_parser.specs.Descent.{Readers, Read, Gives, reader}
 
 -- what is read within the limits of the language, with so many forms inside one another at most
 abbrev pub bounded_reader : ℕ → Readers
-bounded_reader room = record { limit = bounded; expr = (reader bounded room).expr; type = (reader bounded room).type }
+bounded_reader room = record { limit = language_limit; expr = (reader language_limit room).expr; type = (reader language_limit room).type }
 
 -- a tree as a function returns it, with the nesting after it and the tokens after it
 abbrev pub ReadResult : Type 0 → Type 0
@@ -27,10 +27,10 @@ pub record Nests (room : ℕ) (pre_expr : Global → ℕ → ℕ → Start → N
     (post_type : Global → ℕ → ℕ → Nesting → Bor Tokens → ReadResult TypeExpr → Type 0) : Type 0 where
   pub expr_callable : (alloc : Global) (calls : ℕ) (s : Start) (l : Nesting) (ts : Bor Tokens) → pre_expr alloc calls room s l ts
   pub expr_gives : (alloc : Global) (calls : ℕ) (s : Start) (l : Nesting) (ts : Bor Tokens) (r : ReadResult Expr) → post_expr alloc calls room s l ts r
-      → Gives (λ p. (p.0, p.1, p.2.now)) r ((reader bounded room).expr s l ts.now)
+      → Gives (λ p. (p.0, p.1, p.2.now)) r ((reader language_limit room).expr s l ts.now)
   pub type_callable : (alloc : Global) (calls : ℕ) (l : Nesting) (ts : Bor Tokens) → pre_type alloc calls room l ts
   pub type_gives : (alloc : Global) (calls : ℕ) (l : Nesting) (ts : Bor Tokens) (r : ReadResult TypeExpr) → post_type alloc calls room l ts r
-      → Gives (λ p. (p.0, p.1, p.2.now)) r ((reader bounded room).type l ts.now)
+      → Gives (λ p. (p.0, p.1, p.2.now)) r ((reader language_limit room).type l ts.now)
 
 -- whether such a terminal comes next
 abbrev pub comes : (TerminalKind → Bool) → Tokens → Bool

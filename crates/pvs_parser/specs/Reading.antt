@@ -14,7 +14,7 @@ use Rattle.pvs_parser.specs.declared.failure.ParseFault.{ParseFault}
 use Rattle.pvs_parser.specs.declared.failure.ParseFault.TheVariants as parse_fault
 use Rattle.pvs_parser.specs.declared.terminal.Terminal.{Terminal}
 use Rattle.pvs_parser.specs.Faults.{code_of, last_fault}
-use Rattle.pvs_parser.specs.Language.{Tokens, bounded}
+use Rattle.pvs_parser.specs.Language.{Tokens, language_limit}
 use Rattle.pvs_parser.specs.Descent.{Answer, expression}
 use Rattle.pvs_parser.specs.UnitDescent.{unit}
 use Rattle.pvs_parser.specs.Text.{Terminals, first_place, terminals_of_text, terminals_of_span}
@@ -44,12 +44,12 @@ tree_or_fault end ts (Ok x) = unless_fault ts.fault x
 -- the unit of a text of any length, or the fault where reading it stops
 abbrev pub read_text : List ℕ → Result tree.Unit Fault
 read_text text = if nat_lt (2 ^ 20) (length text) then Err (record { pos = first_place; code = code.TextTooLong })
-    else tree_or_fault (place_after first_place text) (terminals_of_text text) (unit bounded text (terminals_of_text text).tokens)
+    else tree_or_fault (place_after first_place text) (terminals_of_text text) (unit language_limit text (terminals_of_text text).tokens)
 
 -- the expression of a span whose first byte has a place, or the fault where reading it stops
 abbrev pub read_span : List ℕ → ℕ → ℕ → Pos → Result Expr Fault
 read_span text start end pos =
-    tree_or_fault (place_after pos (span_of text start end)) (terminals_of_span text start end pos) (expression bounded (terminals_of_span text start end pos).tokens)
+    tree_or_fault (place_after pos (span_of text start end)) (terminals_of_span text start end pos) (expression language_limit (terminals_of_span text start end pos).tokens)
 
 -- ---- What is returned: what reading gives, or that memory ran out.
 

@@ -25,7 +25,7 @@ use Rattle.pvs_parser.specs.declared.terminal.Terminal.{Terminal}
 use Rattle.pvs_parser.specs.declared.terminal.TerminalKind.{TerminalKind}
 use Rattle.pvs_parser.specs.declared.terminal.TerminalKind.TheVariants as kind
 use Rattle.pvs_parser.specs.Faults.{AwaitsName, IsFirstFaultIn}
-use Rattle.pvs_parser.specs.Language.{Tokens, Limit, bounded, ReadsExpr, Ending, Derives, whole, outermost}
+use Rattle.pvs_parser.specs.Language.{Tokens, Limit, language_limit, ReadsExpr, Ending, Derives, whole, outermost}
 use Rattle.pvs_parser.specs.Units.{DerivesUnit}
 
 -- ---- What a token is for the grammar.
@@ -159,7 +159,7 @@ terminals_of_text text = terminals false 0 first_place text
 pub record Reads (text : List ℕ) (u : tree.Unit) : Type 0 where
   pub small : length text ≤ 2 ^ 20
   pub faultless : (terminals_of_text text).fault ≡ None
-  pub derives : DerivesUnit bounded text (terminals_of_text text).tokens u
+  pub derives : DerivesUnit language_limit text (terminals_of_text text).tokens u
 
 -- tokens that are a unit of a text, within a limit
 abbrev pub IsUnit : List ℕ → Limit → Tokens → Type 0

@@ -230,20 +230,20 @@ theory limit text ts = heading limit ts >>= λ p. assuming_part limit p.2 >>= λ
 -- ---- Proofs.
 
 -- The tokens up to the parenthesis that closes the outermost one, where so many more are open. What stands after a token is handed in.
-abbrev pub balanced_of : Limit → ℕ → Terminal → Tokens → (ℕ → Answer (Word × Tokens)) → TerminalKind → Answer (Word × Tokens)
-balanced_of limit n t ts go kind.Open = if is_below limit (suc n) then go (suc n) else too_deep ts
-balanced_of limit zero t ts go kind.Close = Ok (t.word, ts)
-balanced_of limit (suc n) t ts go kind.Close = go n
-balanced_of limit n t ts go _ = go n
+abbrev pub closing_parenthesis_of : Limit → ℕ → Terminal → Tokens → (ℕ → Answer (Word × Tokens)) → TerminalKind → Answer (Word × Tokens)
+closing_parenthesis_of limit n t ts go kind.Open = if is_below limit (suc n) then go (suc n) else too_deep ts
+closing_parenthesis_of limit zero t ts go kind.Close = Ok (t.word, ts)
+closing_parenthesis_of limit (suc n) t ts go kind.Close = go n
+closing_parenthesis_of limit n t ts go _ = go n
 
-unfoldable pub balanced : Limit → ℕ → Tokens → Answer (Word × Tokens)
-balanced limit n [] = stop []
-balanced limit n (t ∷ ts) = balanced_of limit n t ts (λ m. balanced limit m ts) t.kind
+unfoldable pub closing_parenthesis : Limit → ℕ → Tokens → Answer (Word × Tokens)
+closing_parenthesis limit n [] = stop []
+closing_parenthesis limit n (t ∷ ts) = closing_parenthesis_of limit n t ts (λ m. closing_parenthesis limit m ts) t.kind
 
 -- a script, from its parenthesis on
 abbrev pub script : Limit → Tokens → Answer (Word × Word × Tokens)
 script limit [] = stop []
-script limit (t ∷ ts) = expect kind.Open (t ∷ ts) >>= λ us. if is_below limit 0 then (balanced limit 0 us >>= λ p. Ok (t.word, p.0, p.1)) else too_deep us
+script limit (t ∷ ts) = expect kind.Open (t ∷ ts) >>= λ us. if is_below limit 0 then (closing_parenthesis limit 0 us >>= λ p. Ok (t.word, p.0, p.1)) else too_deep us
 
 -- the names of a theory and of a formula, after a parenthesis
 abbrev pub target : Tokens → Answer (Word × Word × Tokens)

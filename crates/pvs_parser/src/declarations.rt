@@ -2,7 +2,7 @@
 
 ghost use Rattle.std.specs.Prelude.{◌≡◌, ◌<◌, ◌∷◌, [], length, map, IfOk};
 ghost use Rattle.pvs_parser.specs.Descent.{Gives};
-ghost use Rattle.pvs_parser.specs.Language.{bounded, outermost};
+ghost use Rattle.pvs_parser.specs.Language.{language_limit, outermost};
 ghost use Rattle.pvs_parser.specs.Steps.{each, declaration_in};
 ghost use Rattle.pvs_parser.specs.Units.{type_decl, const_decl, formula_of};
 ghost use Rattle.pvs_parser.specs.UnitDescent as spec;
@@ -40,7 +40,7 @@ fn one(alloc: Global, decl: Decl) -> Result<Items<Decl>, AllocError>
 
 /// An expression, and the tokens after it.
 fn expr(alloc: Global, tokens: &[Terminal]) -> Result<(Expr, &[Terminal]), Failure>
-    ensures { Gives (λ p. (p.0, p.1.now)) result (spec.expr bounded tokens.now) }
+    ensures { Gives (λ p. (p.0, p.1.now)) result (spec.expr language_limit tokens.now) }
 {
     let (expr, _, rest) = descent::expr(
         alloc,
@@ -56,7 +56,7 @@ fn expr(alloc: Global, tokens: &[Terminal]) -> Result<(Expr, &[Terminal]), Failu
 /// Variables of one type, which is read for each name, so that each has a tree of its own.
 fn variables<'a>(alloc: Global, names: &[Word], tokens: &'a [Terminal]) -> Decls<'a>
     requires { 0 < length names.now }
-    ensures { Gives (λ p. (p.0, p.1.now)) result (spec.variables bounded names.now tokens.now) }
+    ensures { Gives (λ p. (p.0, p.1.now)) result (spec.variables language_limit names.now tokens.now) }
 {
     let mut found = Items::new(alloc);
     let mut rest = tokens;
@@ -71,7 +71,7 @@ fn variables<'a>(alloc: Global, names: &[Word], tokens: &'a [Terminal]) -> Decls
 /// Constants of one type without definitions. The type is read for each name.
 fn plain_constants<'a>(alloc: Global, names: &[Word], tokens: &'a [Terminal]) -> Decls<'a>
     requires { 0 < length names.now }
-    ensures { Gives (λ p. (p.0, p.1.now)) result (each const_decl names.now (spec.type bounded outermost tokens.now)) }
+    ensures { Gives (λ p. (p.0, p.1.now)) result (each const_decl names.now (spec.type language_limit outermost tokens.now)) }
 {
     let mut found = Items::new(alloc);
     let mut rest = tokens;
@@ -90,7 +90,7 @@ fn plain_constants<'a>(alloc: Global, names: &[Word], tokens: &'a [Terminal]) ->
 
 /// The definition of a constant, if it has one.
 fn body(alloc: Global, tokens: &[Terminal]) -> Result<(Option<Expr>, &[Terminal]), Failure>
-    ensures { Gives (λ p. (p.0, p.1.now)) result (spec.body bounded tokens.now) }
+    ensures { Gives (λ p. (p.0, p.1.now)) result (spec.body language_limit tokens.now) }
 {
     let Some(rest) = after(TerminalKind::Equal, tokens) else {
         return Ok((None, tokens));
@@ -101,7 +101,7 @@ fn body(alloc: Global, tokens: &[Terminal]) -> Result<(Option<Expr>, &[Terminal]
 
 /// The type of a constant with these parameters, and its definition.
 fn constant(alloc: Global, name: Word, params: Items<Binding>, tokens: &[Terminal]) -> Decls<'_>
-    ensures { Gives (λ p. (p.0, p.1.now)) result (spec.constant bounded name params tokens.now) }
+    ensures { Gives (λ p. (p.0, p.1.now)) result (spec.constant language_limit name params tokens.now) }
 {
     let (ty, rest) = type_of(alloc, Nesting::OUTERMOST, tokens)?;
     let (body, rest) = body(alloc, rest)?;
@@ -116,7 +116,7 @@ fn constant(alloc: Global, name: Word, params: Items<Binding>, tokens: &[Termina
 
 /// A constant with parameters, after its name and the parenthesis.
 fn function(alloc: Global, name: Word, tokens: &[Terminal]) -> Decls<'_>
-    ensures { Gives (λ p. (p.0, p.1.now)) result (spec.function bounded name tokens.now) }
+    ensures { Gives (λ p. (p.0, p.1.now)) result (spec.function language_limit name tokens.now) }
 {
     let (params, rest) = descent::bindings(alloc, tokens.len() + 1, Nesting::OUTERMOST, tokens)?;
     let rest = expect(TerminalKind::Colon, rest)?;
@@ -125,7 +125,7 @@ fn function(alloc: Global, name: Word, tokens: &[Terminal]) -> Decls<'_>
 
 fn constants<'a>(alloc: Global, names: &[Word], tokens: &'a [Terminal]) -> Decls<'a>
     requires { 0 < length names.now }
-    ensures { Gives (λ p. (p.0, p.1.now)) result (spec.constants bounded names.now tokens.now) }
+    ensures { Gives (λ p. (p.0, p.1.now)) result (spec.constants language_limit names.now tokens.now) }
 {
     match names {
         [name] => constant(alloc, *name, Items::new(alloc), tokens),
@@ -135,7 +135,7 @@ fn constants<'a>(alloc: Global, names: &[Word], tokens: &'a [Terminal]) -> Decls
 
 /// A type with a definition, after its `=`.
 fn type_definition(alloc: Global, name: Word, tokens: &[Terminal]) -> Decls<'_>
-    ensures { Gives (λ p. (p.0, p.1.now)) result (spec.type_definition bounded name tokens.now) }
+    ensures { Gives (λ p. (p.0, p.1.now)) result (spec.type_definition language_limit name tokens.now) }
 {
     let (body, rest) = type_of(alloc, Nesting::OUTERMOST, tokens)?;
     let decl = Decl::TypeDef { name, body };
@@ -158,7 +158,7 @@ fn type_decls(alloc: Global, names: &[Word], nonempty: bool) -> Result<Items<Dec
 
 /// What stands after names, a colon and TYPE. A single name may have a definition.
 fn types<'a>(alloc: Global, names: &[Word], tokens: &'a [Terminal]) -> Decls<'a>
-    ensures { Gives (λ p. (p.0, p.1.now)) result (spec.types bounded names.now tokens.now) }
+    ensures { Gives (λ p. (p.0, p.1.now)) result (spec.types language_limit names.now tokens.now) }
 {
     if let [name] = names {
         if let Some(rest) = after(TerminalKind::Equal, tokens) {
@@ -189,7 +189,7 @@ fn formula<'a>(
     tokens: &'a [Terminal],
     rest: &'a [Terminal],
 ) -> Decls<'a>
-    ensures { Gives (λ p. (p.0, p.1.now)) result (spec.formulas bounded names.now word tokens.now rest.now) }
+    ensures { Gives (λ p. (p.0, p.1.now)) result (spec.formulas language_limit names.now word tokens.now rest.now) }
 {
     let [name] = names else {
         return Err(stop(tokens));
@@ -206,7 +206,7 @@ fn formula<'a>(
 /// What the names before a colon are.
 fn declared<'a>(alloc: Global, names: &[Word], tokens: &'a [Terminal]) -> Decls<'a>
     requires { 0 < length names.now }
-    ensures { Gives (λ p. (p.0, p.1.now)) result (spec.decls_after_colon bounded names.now tokens.now) }
+    ensures { Gives (λ p. (p.0, p.1.now)) result (spec.decls_after_colon language_limit names.now tokens.now) }
 {
     let [token, rest @ ..] = tokens else {
         return Err(stop(tokens));
@@ -224,7 +224,7 @@ fn declared<'a>(alloc: Global, names: &[Word], tokens: &'a [Terminal]) -> Decls<
 
 /// Names, a colon, and what they are.
 fn named(alloc: Global, tokens: &[Terminal]) -> Decls<'_>
-    ensures { Gives (λ p. (p.0, p.1.now)) result (spec.declaration_of_names bounded tokens.now) }
+    ensures { Gives (λ p. (p.0, p.1.now)) result (spec.declaration_of_names language_limit tokens.now) }
 {
     let (names, rest) = ids(alloc, tokens)?;
     let rest = expect(TerminalKind::Colon, rest)?;
@@ -233,7 +233,7 @@ fn named(alloc: Global, tokens: &[Terminal]) -> Decls<'_>
 
 /// A declaration, as an entry for each name or instance.
 fn declaration(alloc: Global, tokens: &[Terminal]) -> Decls<'_>
-    ensures { Gives (λ p. (p.0, p.1.now)) result (spec.declaration bounded tokens.now) }
+    ensures { Gives (λ p. (p.0, p.1.now)) result (spec.declaration language_limit tokens.now) }
 {
     if let Some(rest) = after(TerminalKind::Importing, tokens) {
         return importing(alloc, rest);
@@ -248,7 +248,7 @@ fn declaration(alloc: Global, tokens: &[Terminal]) -> Decls<'_>
 /// What the names before a colon are in an assuming part.
 fn assumed_after<'a>(alloc: Global, names: &[Word], tokens: &'a [Terminal]) -> Decls<'a>
     requires { 0 < length names.now }
-    ensures { Gives (λ p. (p.0, p.1.now)) result (spec.assuming_decls_after_colon bounded names.now tokens.now) }
+    ensures { Gives (λ p. (p.0, p.1.now)) result (spec.assuming_decls_after_colon language_limit names.now tokens.now) }
 {
     let [token, rest @ ..] = tokens else {
         return Err(stop(tokens));
@@ -262,7 +262,7 @@ fn assumed_after<'a>(alloc: Global, names: &[Word], tokens: &'a [Terminal]) -> D
 
 /// A declaration of an assuming part.
 fn assumed(alloc: Global, tokens: &[Terminal]) -> Decls<'_>
-    ensures { Gives (λ p. (p.0, p.1.now)) result (spec.assuming_decl bounded tokens.now) }
+    ensures { Gives (λ p. (p.0, p.1.now)) result (spec.assuming_decl language_limit tokens.now) }
 {
     if let Some(rest) = after(TerminalKind::Importing, tokens) {
         return importing(alloc, rest);
@@ -274,7 +274,7 @@ fn assumed(alloc: Global, tokens: &[Terminal]) -> Decls<'_>
 
 /// A declaration of a part of a theory.
 fn entry(alloc: Global, part: TheoryPart, tokens: &[Terminal]) -> Decls<'_>
-    ensures { Gives (λ p. (p.0, p.1.now)) result (declaration_in bounded part tokens.now) }
+    ensures { Gives (λ p. (p.0, p.1.now)) result (declaration_in language_limit part tokens.now) }
 {
     match part {
         TheoryPart::Assuming => assumed(alloc, tokens),
@@ -305,7 +305,7 @@ fn past_semicolon(tokens: &[Terminal]) -> &[Terminal]
 /// Declarations of a part of a theory, as long as one comes next, and the tokens after them.
 #[tactic(auto, using(crate::proofs::UnitTurns::many_end, crate::proofs::UnitTurns::many_err, crate::proofs::UnitTurns::many_next, crate::proofs::UnitTurns::many_full))]
 pub fn declarations(alloc: Global, part: TheoryPart, tokens: &[Terminal]) -> Decls<'_>
-    ensures { Gives (λ p. (p.0, p.1.now)) result (spec.many_from (declaration_in bounded part) (length tokens.now) [] tokens.now) }
+    ensures { Gives (λ p. (p.0, p.1.now)) result (spec.many_from (declaration_in language_limit part) (length tokens.now) [] tokens.now) }
 {
     let mut found = Items::new(alloc);
     let mut rest = tokens;

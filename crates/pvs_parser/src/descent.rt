@@ -4,7 +4,7 @@
 ghost use Rattle.std.specs.Prelude.{◌≡◌};
 ghost use Rattle.pvs_parser.specs.Descent.{Gives, reader};
 ghost use Rattle.pvs_parser.specs.Descent as spec;
-ghost use Rattle.pvs_parser.specs.Language.{bounded, Parameter, Variable};
+ghost use Rattle.pvs_parser.specs.Language.{language_limit, Parameter, Variable};
 ghost use Rattle.pvs_parser.specs.Nests.{Nests, bounded_reader};
 
 use crate::failure::Failure;
@@ -97,7 +97,7 @@ pub fn expr(
     nesting: Nesting,
     tokens: &[Terminal],
 ) -> Read<'_, Expr>
-    ensures { Gives (λ p. (p.0, p.1, p.2.now)) result ((reader bounded room).expr start nesting tokens.now) }
+    ensures { Gives (λ p. (p.0, p.1, p.2.now)) result ((reader language_limit room).expr start nesting tokens.now) }
 {
     if calls == 0 {
         return Err(Failure::Memory);
@@ -124,7 +124,7 @@ pub fn type_expr(
     nesting: Nesting,
     tokens: &[Terminal],
 ) -> Read<'_, TypeExpr>
-    ensures { Gives (λ p. (p.0, p.1, p.2.now)) result ((reader bounded room).type nesting tokens.now) }
+    ensures { Gives (λ p. (p.0, p.1, p.2.now)) result ((reader language_limit room).type nesting tokens.now) }
 {
     if calls == 0 {
         return Err(Failure::Memory);
@@ -149,7 +149,7 @@ pub fn bindings(
     nesting: Nesting,
     tokens: &[Terminal],
 ) -> Result<(Items<Binding>, &[Terminal]), Failure>
-    ensures { Gives (λ p. (p.0, p.1.now)) result (spec.framed_with (reader bounded room) Variable TerminalKind.Close nesting tokens.now) }
+    ensures { Gives (λ p. (p.0, p.1.now)) result (spec.framed_with (reader language_limit room) Variable TerminalKind.Close nesting tokens.now) }
 {
     Descent {
         alloc,
@@ -168,7 +168,7 @@ pub fn actuals(
     nesting: Nesting,
     tokens: &[Terminal],
 ) -> Result<(Items<Actual>, &[Terminal]), Failure>
-    ensures { Gives (λ p. (p.0, p.1.now)) result (spec.framed_with (reader bounded room) Parameter TerminalKind.CloseBracket nesting tokens.now) }
+    ensures { Gives (λ p. (p.0, p.1.now)) result (spec.framed_with (reader language_limit room) Parameter TerminalKind.CloseBracket nesting tokens.now) }
 {
     Descent {
         alloc,
@@ -182,7 +182,7 @@ pub fn actuals(
 
 /// All the tokens as one expression.
 pub fn expression(alloc: Global, tokens: &[Terminal]) -> Result<Expr, Failure>
-    ensures { Gives (λ x. x) result (spec.expression bounded tokens.now) }
+    ensures { Gives (λ x. x) result (spec.expression language_limit tokens.now) }
 {
     let start = Start::Chain(Connective::Iff);
     let (tree, _, rest) = expr(

@@ -10,7 +10,7 @@ ghost use Rattle.pvs_parser.specs.declared.nesting.Nesting.{Nesting as Levels};
 ghost use Rattle.pvs_parser.specs.FirstTokens.{StartsAt};
 ghost use Rattle.pvs_syntax.specs.declared.unit.Unit as tree;
 ghost use Rattle.pvs_parser.specs.Faults.{Begins};
-ghost use Rattle.pvs_parser.specs.Language.{Derives, Ending, Limit, ReadsExpr, bounded, name, type_, whole};
+ghost use Rattle.pvs_parser.specs.Language.{Derives, Ending, Limit, ReadsExpr, language_limit, name, type_, whole};
 ghost use Rattle.pvs_parser.specs.Text.{IsUnit};
 ghost use Rattle.pvs_parser.specs.Units.{DerivesUnit};
 
@@ -21,12 +21,12 @@ pub fn one_expression()
 
 /// A list of tokens of a text is at most one unit.
 pub fn one_unit()
-    ensures { (text : List ℕ) (ts : List Token) (u v : tree.Unit) → DerivesUnit bounded text ts u → DerivesUnit bounded text ts v → u ≡ v }
+    ensures { (text : List ℕ) (ts : List Token) (u v : tree.Unit) → DerivesUnit language_limit text ts u → DerivesUnit language_limit text ts v → u ≡ v }
 {}
 
 /// Each prefix of a list of tokens that is a unit begins one.
 pub fn prefix_begins()
-    ensures { (text : List ℕ) (us vs : List Token) → IsUnit text bounded (us ++ vs) → Begins (IsUnit text) bounded us }
+    ensures { (text : List ℕ) (us vs : List Token) → IsUnit text language_limit (us ++ vs) → Begins (IsUnit text) language_limit us }
 {}
 
 /// The tokens of an expression, a type or a name begin with a token at the place of its tree, which

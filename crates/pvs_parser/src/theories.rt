@@ -2,7 +2,7 @@
 
 ghost use Rattle.std.specs.Prelude.{◌≡◌, bytes_eq};
 ghost use Rattle.pvs_parser.specs.Descent.{Gives};
-ghost use Rattle.pvs_parser.specs.Language.{bounded};
+ghost use Rattle.pvs_parser.specs.Language.{language_limit};
 ghost use Rattle.pvs_syntax.specs.Words.{spelling};
 ghost use Rattle.pvs_parser.specs.UnitDescent as spec;
 
@@ -17,7 +17,7 @@ use std::alloc::Global;
 
 /// The assuming part of a theory, if it has one.
 fn assuming_part(alloc: Global, tokens: &[Terminal]) -> Decls<'_>
-    ensures { Gives (λ p. (p.0, p.1.now)) result (spec.assuming_part bounded tokens.now) }
+    ensures { Gives (λ p. (p.0, p.1.now)) result (spec.assuming_part language_limit tokens.now) }
 {
     let Some(rest) = after(TerminalKind::Assuming, tokens) else {
         return Ok((Items::new(alloc), tokens));
@@ -32,7 +32,7 @@ fn heading(
     alloc: Global,
     tokens: &[Terminal],
 ) -> Result<(Word, Items<Formal>, &[Terminal]), Failure>
-    ensures { Gives (λ p. (p.0, p.1, p.2.now)) result (spec.heading bounded tokens.now) }
+    ensures { Gives (λ p. (p.0, p.1, p.2.now)) result (spec.heading language_limit tokens.now) }
 {
     let (name, rest) = id(tokens)?;
     let (formals, rest) = formal_part(alloc, rest)?;
@@ -75,7 +75,7 @@ pub fn theory<'a>(
     text: &[u8],
     tokens: &'a [Terminal],
 ) -> Result<(Theory, &'a [Terminal]), Failure>
-    ensures { Gives (λ p. (p.0, p.1.now)) result (spec.theory bounded text.now tokens.now) }
+    ensures { Gives (λ p. (p.0, p.1.now)) result (spec.theory language_limit text.now tokens.now) }
 {
     let (name, formals, rest) = heading(alloc, tokens)?;
     let (assuming, rest) = assuming_part(alloc, rest)?;

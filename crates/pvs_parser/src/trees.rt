@@ -109,7 +109,7 @@ pub fn project(
     nesting: Nesting,
     tokens: &[Terminal],
 ) -> Read<'_, Expr>
-    ensures { Gives (λ p. (p.0, p.1, p.2.now)) result (spec.project language.bounded operand nesting tokens.now) }
+    ensures { Gives (λ p. (p.0, p.1, p.2.now)) result (spec.project language.language_limit operand nesting tokens.now) }
 {
     let nesting = nesting.mark(tokens)?;
     let (word, rest) = number(tokens)?;

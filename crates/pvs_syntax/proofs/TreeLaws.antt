@@ -19,7 +19,7 @@ use Rattle.pvs_syntax.specs.declared.expression.TypeExpr.{TypeExpr}
 use Rattle.pvs_syntax.specs.declared.expression.TypeExpr.TheVariants as type_expr
 use Rattle.pvs_syntax.specs.declared.expression.Actual.TheOpen.{Actual-F, Expr-F, TypeExpr-F}
 use Rattle.pvs_syntax.specs.declared.expression.Actual.TheFolds.{fold-roll-Actual, fold-roll-Binding, fold-roll-Expr, fold-roll-InstExpr, fold-roll-LetPart, fold-roll-NameExpr, fold-roll-TypeExpr}
-use Rattle.pvs_syntax.specs.Trees.{Origin, has_entries, all_true, actual_step, expr_step, type_step, binding_step, inst_step, part_step, name_step, is_actual_in, is_expr_in, type_in, binding_in, inst_in, is_part_in, name_in, is_identifier_in, is_number_in, is_missing_name_in}
+use Rattle.pvs_syntax.specs.Trees.{Origin, has_entries, are_true, actual_step, expr_step, type_step, binding_step, inst_step, part_step, name_step, is_actual_in, is_expr_in, type_in, binding_in, inst_in, is_part_in, name_in, is_identifier_in, is_number_in, is_missing_name_in}
 
 -- a list of parts, and the answers for them
 list_is : {A B : Type 0} (least : ℕ) (g : A → B) (h : B → Bool) (xs : List A)

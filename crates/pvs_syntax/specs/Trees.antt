@@ -74,8 +74,8 @@ is_missing_name_in o w first = ((w.start == w.end) && nat_lt w.end (length o.tex
 abbrev pub has_entries : ℕ → ℕ → Bool
 has_entries least size = nat_le least size && nat_le size 200
 
-abbrev pub all_true : List Bool → Bool
-all_true bs = list_all (λ b. b) bs
+abbrev pub are_true : List Bool → Bool
+are_true bs = list_all (λ b. b) bs
 
 -- Each step says of one layer of a tree whether it is of the text, where the answers for its parts stand in place of them. Of a
 -- type, an instance and a name it also gives the place of the first token, and a binding has two answers: as a component of a
@@ -90,13 +90,13 @@ actual_step (Actual-F.TypeActual a) = a.0
 abbrev pub expr_step : Origin → Step Expr-F Bool
 expr_step o (Expr-F.Truth b pos) = true
 expr_step o (Expr-F.NameTerm n) = n.0
-expr_step o (Expr-F.Apply f xs) = f && (has_entries 1 (length xs) && all_true xs)
+expr_step o (Expr-F.Apply f xs) = f && (has_entries 1 (length xs) && are_true xs)
 expr_step o (Expr-F.Project x w) = x && is_number_in o w
 expr_step o (Expr-F.Paren x pos) = x
-expr_step o (Expr-F.TupleTerm xs pos) = has_entries 2 (length xs) && all_true xs
+expr_step o (Expr-F.TupleTerm xs pos) = has_entries 2 (length xs) && are_true xs
 expr_step o (Expr-F.Cond c x y pos) = c && (x && y)
 expr_step o (Expr-F.Binder w bs x pos) = (has_entries 1 (length bs) && list_all (λ b. b.1) bs) && x
-expr_step o (Expr-F.Let ps x pos) = (has_entries 1 (length ps) && all_true ps) && x
+expr_step o (Expr-F.Let ps x pos) = (has_entries 1 (length ps) && are_true ps) && x
 expr_step o (Expr-F.Not x pos) = x
 expr_step o (Expr-F.Infix w x y) = x && y
 
@@ -121,7 +121,7 @@ abbrev pub binding_step : Origin → Step Binding-F (Bool × Bool)
 binding_step o b = (is_component o b.word b.ty, is_identifier_in o b.word && is_annotation b.ty)
 
 abbrev pub inst_step : Origin → Step InstExpr-F (Bool × Pos)
-inst_step o i = (is_identifier_in o i.theory && (has_entries 0 (length i.actuals) && all_true i.actuals), i.theory.pos)
+inst_step o i = (is_identifier_in o i.theory && (has_entries 0 (length i.actuals) && are_true i.actuals), i.theory.pos)
 
 abbrev pub part_step : Origin → Step LetPart-F Bool
 part_step o p = is_identifier_in o p.word && (is_annotation p.ty && p.value)
