@@ -1,5 +1,5 @@
 -- How the tokens of a text lie in it.
-use Rattle.std.specs.Prelude.{◌≡◌, ℕ, ◌-◌, ◌<◌, ◌≤◌, List, [], ◌∷◌, take, drop, Some}
+use Rattle.std.specs.Prelude.{◌≡◌, ℕ, ◌<◌, ◌≤◌, List, [], ◌∷◌, take, Some}
 use Rattle.pvs_base.specs.declared.place.Pos.{Pos}
 use Rattle.pvs_base.specs.Place.{place_after}
 use Rattle.pvs_base.specs.Spans.{span_of}

@@ -1,20 +1,15 @@
 -- What the grammar derives of the terminals of a text is a tree of the text.
-use Rattle.std.proofs.Common.{◌≡◌, ◌∙◌, ◌<◌, ◌≤◌, ◌+◌, ◌&&◌, ◌||◌, ℕ, Bool, true, false, List, [], ◌∷◌, ◌++◌, length, Option, Some, None, refl, sym, ap, subst, arith}
+use Rattle.std.proofs.Common.{◌≡◌, ◌∙◌, ◌≤◌, ◌&&◌, ℕ, Bool, true, false, List, [], ◌∷◌, ◌++◌, length, refl, ap, arith}
 use Rattle.std.specs.Cmp.Derive.{both_true}
 use Rattle.std.specs.List.{list_all}
 use Rattle.std.proofs.lemmas.Bool.{lt-ltb, le-leb, eq-eqb, or_left, or_right}
 use Rattle.pvs_base.specs.declared.place.Pos.{Pos}
-use Rattle.pvs_syntax.specs.declared.word.Word.{Word}
-use Rattle.pvs_syntax.specs.declared.expression.Actual.{Actual}
-use Rattle.pvs_syntax.specs.declared.expression.Binding.{Binding}
 use Rattle.pvs_syntax.specs.declared.expression.Expr.{Expr}
-use Rattle.pvs_syntax.specs.declared.expression.LetPart.{LetPart}
-use Rattle.pvs_syntax.specs.declared.expression.TypeExpr.{TypeExpr}
-use Rattle.pvs_syntax.specs.Trees.{Origin, has_entries, same_place, is_identifier_in, is_missing_name_in, is_actual_in, is_expr_in, type_in, binding_in, inst_in, is_part_in, name_in}
+use Rattle.pvs_syntax.specs.Trees.{Origin, has_entries, is_missing_name_in, is_actual_in, is_expr_in, type_in, binding_in, inst_in, is_part_in, name_in}
 use Rattle.pvs_syntax.proofs.TreeLaws.{truth_is, name_term_is, apply_is, project_is, paren_is, tuple_is, cond_is, binder_is, let_is, not_is, infix_is, name_type_is, fun_type_is, tuple_type_is, sub_type_is, pred_type_is, expr_actual_is, type_actual_is, untyped_is, typed_is, inst_is, untyped_part_is, typed_part_is, simple_name_is, name_with_theory_is}
 use Rattle.pvs_parser.specs.declared.nesting.Nesting.{Nesting}
 use Rattle.pvs_parser.specs.declared.terminal.Terminal.{Terminal}
-use Rattle.pvs_parser.specs.Language.{Tokens, IsBelow, Derives, Plain, Form, Item, ItemTree, Nonterminal, form, item, list, name, inst, type_, TreeOf, language_limit, operand_form, whole, operator, group_tree, empty_word}
+use Rattle.pvs_parser.specs.Language.{Tokens, Derives, Plain, Form, Item, ItemTree, Nonterminal, form, item, list, name, inst, type_, TreeOf, language_limit, operand_form, whole, operator, group_tree, empty_word}
 use Rattle.pvs_parser.specs.FirstTokens.{StartsAt}
 use Rattle.pvs_parser.proofs.FirstTokens.{front, moved}
 use Rattle.pvs_parser.proofs.TreeTokens.{IsTerminalOf, AreTerminalsOf, prefix_are, rest_are, identifier_in, number_in, same_places}
@@ -52,9 +47,9 @@ group_in : (o : Origin) (pos : Pos) (xs : List Expr) → IsListIn o Item.Express
 group_in o pos [] h = absurd (let some = h.some in omega arith)
 group_in o pos (x ∷ []) h = paren_is o x pos ∙ first_item (is_expr_in o x) h.items
   where
-  first_item : (b : Bool) → (b && true) ≡ true → b ≡ true
-  first_item true e = refl
-  first_item false e = e
+    first_item : (b : Bool) → (b && true) ≡ true → b ≡ true
+    first_item true e = refl
+    first_item false e = e
 group_in o pos (x ∷ y ∷ xs) h = tuple_is o (x ∷ y ∷ xs) pos ∙ both_true (entries 2 (length (x ∷ y ∷ xs)) (omega arith) h.most) h.items
 
 -- ---- Types and names.
@@ -63,18 +58,21 @@ starts : (ts : Tokens) (p q : Bool × Pos) → p ≡ q → q.0 ≡ true → Star
 starts ts p q e is s = (ap (λ z. z.0) e ∙ is, moved ts q.1 p.1 (ap (λ z. z.1) e) s)
 
 -- the empty word before the first token of a component
-missing_in : (o : Origin) (t : Terminal) (ts : Tokens) (at : Pos) → IsTerminalOf o t → StartsAt (t ∷ ts) at → is_missing_name_in o (empty_word t.word) at ≡ true
+missing_in : (o : Origin) (t : Terminal) (ts : Tokens) (at : Pos) → IsTerminalOf o t → StartsAt (t ∷ ts) at
+    → is_missing_name_in o (empty_word t.word) at ≡ true
 missing_in o t ts at h s =
     both_true (both_true (eq-eqb t.word.start t.word.start refl) (lt-ltb t.word.start (length o.text) (omega (arith, h.order, h.end))))
     (both_true (same_places t.word.pos (o.place t.word.start) h.pos) (same_places t.word.pos at (ap (λ (z : Terminal). z.word.pos) (first_same s.2) ∙ s.3)))
   where
-  first_same : {a b : Terminal} {us vs : Tokens} → a ∷ us ≡ b ∷ vs → a ≡ b
-  first_same e = cc
+    first_same : {a b : Terminal} {us vs : Tokens} → a ∷ us ≡ b ∷ vs → a ≡ b
+    first_same e = cc
 
 -- ---- The grammar.
 
-pub is_in : (o : Origin) (s : Nonterminal) (l : Nesting) (ts : Tokens) (x : TreeOf s) (m : Nesting) → Derives language_limit s l ts x m → AreTerminalsOf o ts → IsIn o s ts x
-is_in o _ _ _ _ _ (Derives.one i l m ts x d) h = record { some = omega arith; most = omega arith; items = both_true (is_in o (item i) l ts x m d h) refl }
+pub is_in : (o : Origin) (s : Nonterminal) (l : Nesting) (ts : Tokens) (x : TreeOf s) (m : Nesting) → Derives language_limit s l ts x m
+    → AreTerminalsOf o ts → IsIn o s ts x
+is_in o _ _ _ _ _ (Derives.one i l m ts x d) h =
+    record { some = omega arith; most = omega arith; items = both_true (is_in o (item i) l ts x m d h) refl }
 is_in o _ _ _ _ _ (Derives.more i l k m ts us x xs t d is e lt) h =
     let a = rest_are o ts (t ∷ us) h in
     let r = is_in o (list i) _ us xs m e a.1 in
@@ -103,7 +101,8 @@ is_in o _ _ _ _ _ (Derives.let_in e l k m ts us ps x t u is lt d in_ f) h =
 is_in o _ _ _ _ _ (Derives.truth l t is) h = truth_is o true t.word.pos
 is_in o _ _ _ _ _ (Derives.falsity l t is) h = truth_is o false t.word.pos
 is_in o _ _ _ _ _ (Derives.name_term l m ts x d) h = name_term_is o x ∙ (is_in o name l ts x m d h).0
-is_in o _ _ _ _ _ (Derives.group l k ts xs t u is lt d close) h = group_in o t.word.pos xs (is_in o (list Item.Expression) _ ts xs k d (prefix_are o ts (u ∷ []) h.1))
+is_in o _ _ _ _ _ (Derives.group l k ts xs t u is lt d close) h =
+    group_in o t.word.pos xs (is_in o (list Item.Expression) _ ts xs k d (prefix_are o ts (u ∷ []) h.1))
 is_in o _ _ _ _ _ (Derives.cond l k j m ts us vs c x y t u is lt d then_ e f) h =
     let a = (rest_are o ts (u ∷ (us ++ vs)) h.1).1 in
     cond_is o c x y t.word.pos
@@ -121,11 +120,13 @@ is_in o _ _ _ _ _ (Derives.call b l k j ts us f xs t u d is lt e close) h =
     apply_is o f xs ∙ both_true (is_in o (form (Form.Term b)) l ts f k d (prefix_are o ts (t ∷ (us ++ u ∷ [])) h)) (both_true (entries 1 (length xs) r.some r.most) r.items)
 is_in o _ _ _ _ _ (Derives.project b l k ts x t u d is lt number) h =
     project_is o x u.word ∙ both_true (is_in o (form (Form.Term b)) l ts x k d (prefix_are o ts (t ∷ u ∷ []) h)) (number_in o u (rest_are o ts (t ∷ u ∷ []) h).1.0 number)
-is_in o _ _ _ _ _ (Derives.plain_name l t is) h = starts (t ∷ []) _ _ (simple_name_is o t.word) (both_true refl (identifier_in o t h.0 is)) (t, [], refl, refl)
+is_in o _ _ _ _ _ (Derives.plain_name l t is) h =
+    starts (t ∷ []) _ _ (simple_name_is o t.word) (both_true refl (identifier_in o t h.0 is)) (t, [], refl, refl)
 is_in o _ _ _ _ _ (Derives.qualified_name l m ts i t u d dot is) h =
     let r = is_in o inst l ts i m d (prefix_are o ts (t ∷ u ∷ []) h) in
     starts (ts ++ t ∷ u ∷ []) _ _ (name_with_theory_is o i u.word) (both_true r.0 (identifier_in o u (rest_are o ts (t ∷ u ∷ []) h).1.0 is)) (front ts (t ∷ u ∷ []) _ r.1)
-is_in o _ _ _ _ _ (Derives.plain_inst l t is) h = starts (t ∷ []) _ _ (inst_is o t.word []) (both_true (identifier_in o t h.0 is) refl) (t, [], refl, refl)
+is_in o _ _ _ _ _ (Derives.plain_inst l t is) h =
+    starts (t ∷ []) _ _ (inst_is o t.word []) (both_true (identifier_in o t h.0 is) refl) (t, [], refl, refl)
 is_in o _ _ _ _ _ (Derives.inst_with l k ts xs t u v is opened lt d close) h =
     let r = is_in o (list Item.Parameter) _ ts xs k d (prefix_are o ts (v ∷ []) h.1.1) in
     starts (t ∷ u ∷ (ts ++ v ∷ [])) _ _ (inst_is o t.word xs) (both_true (identifier_in o t h.0 is) (both_true (entries 0 (length xs) (omega arith) r.most) r.items)) (t, u ∷ (ts ++ v ∷ []), refl, refl)

@@ -1,5 +1,5 @@
 -- The terminals of a text, as trees ask for them: where they lie, and what their bytes are.
-use Rattle.std.proofs.Common.{◌≡◌, ◌∙◌, ◌<◌, ◌≤◌, ◌&&◌, ◌==◌, ◌||◌, ℕ, Bool, true, false, if◌then◌else◌, List, [], ◌∷◌, ◌++◌, length, codes, Option, Some, None, refl, sym, ap, subst, arith}
+use Rattle.std.proofs.Common.{◌≡◌, ◌∙◌, ◌<◌, ◌≤◌, ◌==◌, ℕ, Bool, true, false, if◌then◌else◌, List, [], ◌∷◌, ◌++◌, length, codes, Option, Some, None, refl, sym, ap, subst}
 use Rattle.std.specs.Prelude.{is_none, bytes_eq}
 use Rattle.std.specs.Cmp.Derive.{both_true}
 use Rattle.std.proofs.lemmas.Bool.{lt-ltb, le-leb, eq-eqb, or_left, or_right}
@@ -11,7 +11,6 @@ use Rattle.pvs_lexer.specs.declared.words.Keyword.TheVariants as k
 use Rattle.pvs_lexer.specs.Keywords.{keyword_of}
 use Rattle.pvs_lexer.specs.Tokens.{is_word, is_bang, is_number, is_quoted, is_symbol}
 use Rattle.pvs_lexer.specs.Tokens as lexer
-use Rattle.pvs_syntax.specs.declared.word.Word.{Word}
 use Rattle.pvs_syntax.specs.Trees.{Origin, same_place, is_identifier, is_word_in, is_identifier_in, is_number_in}
 use Rattle.pvs_syntax.specs.Words.{spelling}
 use Rattle.pvs_parser.specs.declared.terminal.Terminal.{Terminal}
@@ -19,7 +18,7 @@ use Rattle.pvs_parser.specs.declared.terminal.TerminalKind.{TerminalKind}
 use Rattle.pvs_parser.specs.declared.terminal.TerminalKind.TheVariants as kind
 use Rattle.pvs_parser.specs.Language.{Tokens}
 use Rattle.pvs_parser.specs.Terminals.{Is, IsId, is_id}
-use Rattle.pvs_parser.specs.Text.{kind_of, keyword_kind, name_kind, word_kind, sign_kind, pair_kind, symbol_kind}
+use Rattle.pvs_parser.specs.Text.{kind_of, keyword_kind, word_kind, sign_kind, pair_kind, symbol_kind}
 
 -- a terminal of a text: where it lies, and that its bytes are one token of its kind
 pub record IsTerminalOf (o : Origin) (t : Terminal) : Type 0 where
@@ -46,7 +45,8 @@ rest_are o (t ∷ ts) us h = rest_are o ts us h.1
 -- ---- Bytes of one token.
 
 abbrev found : Bool → Bool → Bool → Bool → Bool → Option TokenKind
-found a b c d e = if a then Some token.Word else (if b then Some token.Bang else (if c then Some token.Number else (if d then Some token.Quoted else (if e then Some token.Symbol else None))))
+found a b c d e =
+    if a then Some token.Word else (if b then Some token.Bang else (if c then Some token.Number else (if d then Some token.Quoted else (if e then Some token.Symbol else None))))
 
 found_word : (a b c d e : Bool) → found a b c d e ≡ Some token.Word → a ≡ true
 found_word true b c d e is = refl
@@ -128,7 +128,8 @@ word_id : (bytes : List ℕ) (o : Option Keyword) → is_id (word_kind bytes o) 
 word_id bytes None id = refl
 word_id bytes (Some w) id = absurd (not_both _ (keyword_spelled w) (id_spelled (keyword_kind w) id))
 
-id_bytes : (quoted : Bool) (j : TokenKind) (bytes : List ℕ) → lexer.kind_of bytes ≡ Some j → is_id (kind_of quoted j bytes) ≡ true → is_identifier quoted bytes ≡ true
+id_bytes : (quoted : Bool) (j : TokenKind) (bytes : List ℕ) → lexer.kind_of bytes ≡ Some j → is_id (kind_of quoted j bytes) ≡ true
+    → is_identifier quoted bytes ≡ true
 id_bytes quoted token.Word bytes is id = or_left _ _ (both_true (word_bytes bytes is) (word_id bytes (keyword_of bytes) id))
 id_bytes true token.Bang bytes is id = or_right _ _ (both_true refl (bang_bytes bytes is))
 id_bytes false token.Bang bytes is id = cc
@@ -140,7 +141,8 @@ abbrev is_number_kind : TerminalKind → Bool
 is_number_kind kind.Number = true
 is_number_kind _ = false
 
-choice_number : (b : Bool) (x y : TerminalKind) → is_number_kind x ≡ false → is_number_kind y ≡ false → is_number_kind (if b then x else y) ≡ false
+choice_number : (b : Bool) (x y : TerminalKind) → is_number_kind x ≡ false → is_number_kind y ≡ false
+    → is_number_kind (if b then x else y) ≡ false
 choice_number true x y e f = e
 choice_number false x y e f = f
 
@@ -152,7 +154,8 @@ word_number : (bytes : List ℕ) (o : Option Keyword) → is_number_kind (word_k
 word_number bytes None e = not_both _ (choice_number (bytes_eq bytes (codes "proof")) kind.Proof kind.Id refl refl) e
 word_number bytes (Some w) e = not_both _ (keyword_spelled w) (number_spelled (keyword_kind w) e)
 
-number_is : (quoted : Bool) (j : TokenKind) (bytes : List ℕ) → lexer.kind_of bytes ≡ Some j → is_number_kind (kind_of quoted j bytes) ≡ true → is_number bytes ≡ true
+number_is : (quoted : Bool) (j : TokenKind) (bytes : List ℕ) → lexer.kind_of bytes ≡ Some j
+    → is_number_kind (kind_of quoted j bytes) ≡ true → is_number bytes ≡ true
 number_is quoted token.Word bytes is e = absurd (word_number bytes (keyword_of bytes) e)
 number_is true token.Bang bytes is e = cc
 number_is false token.Bang bytes is e = cc
@@ -166,10 +169,13 @@ pub same_places : (p q : Pos) → p ≡ q → same_place p q ≡ true
 same_places p q e = both_true (eq-eqb p.line q.line (ap (λ (z : Pos). z.line) e)) (eq-eqb p.col q.col (ap (λ (z : Pos). z.col) e))
 
 word_in : (o : Origin) (t : Terminal) → IsTerminalOf o t → is_word_in o t.word ≡ true
-word_in o t h = both_true (both_true (lt-ltb t.word.start t.word.end h.order) (le-leb t.word.end (length o.text) h.end)) (same_places t.word.pos (o.place t.word.start) h.pos)
+word_in o t h =
+    both_true (both_true (lt-ltb t.word.start t.word.end h.order) (le-leb t.word.end (length o.text) h.end)) (same_places t.word.pos (o.place t.word.start) h.pos)
 
 pub identifier_in : (o : Origin) (t : Terminal) → IsTerminalOf o t → IsId t → is_identifier_in o t.word ≡ true
-identifier_in o t h id = both_true (word_in o t h) (id_bytes o.quoted h.token (spelling o.text t.word) h.is (subst (λ z. is_id z ≡ true) h.kind id))
+identifier_in o t h id =
+    both_true (word_in o t h) (id_bytes o.quoted h.token (spelling o.text t.word) h.is (subst (λ z. is_id z ≡ true) h.kind id))
 
 pub number_in : (o : Origin) (t : Terminal) → IsTerminalOf o t → Is kind.Number t → is_number_in o t.word ≡ true
-number_in o t h is = both_true (word_in o t h) (number_is o.quoted h.token (spelling o.text t.word) h.is (ap is_number_kind (sym h.kind ∙ is)))
+number_in o t h is =
+    both_true (word_in o t h) (number_is o.quoted h.token (spelling o.text t.word) h.is (ap is_number_kind (sym h.kind ∙ is)))

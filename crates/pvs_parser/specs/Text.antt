@@ -1,5 +1,5 @@
 -- Which unit a text is, and which expression a span of it.
-use Rattle.std.specs.Prelude.{◌≡◌, ◌≤◌, ◌<◌, ◌^◌, ℕ, ◌+◌, ◌-◌, ◌==◌, Bool, true, false, if◌then◌else◌, List, [], ◌∷◌, length, map, take, drop, codes, Option, Some, None, Result, Ok, Err, All, ⊤}
+use Rattle.std.specs.Prelude.{◌≡◌, ◌≤◌, ◌<◌, ◌^◌, ℕ, ◌+◌, ◌==◌, Bool, true, false, if◌then◌else◌, List, [], ◌∷◌, length, map, codes, Option, Some, None, Result, Ok, Err, All, ⊤}
 use Rattle.std.specs.Str.{bytes_eq}
 use Rattle.pvs_base.specs.declared.code.Code.TheVariants as code
 use Rattle.pvs_base.specs.declared.code.Fault.{Fault}

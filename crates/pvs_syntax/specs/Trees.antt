@@ -1,6 +1,6 @@
 -- Which trees are trees of a text: each word is a token of the text, of the kind that the grammar has there, and each list has a
 -- length that the grammar allows.
-use Rattle.std.specs.Prelude.{◌==◌, ◌&&◌, ◌||◌, ◌≡◌, ◌≤◌, ◌<◌, ℕ, nat_le, nat_lt, Bool, true, false, IsTrue, List, length, take, Option, Some, None, is_none, All, ⊤}
+use Rattle.std.specs.Prelude.{◌==◌, ◌&&◌, ◌||◌, ◌≡◌, ◌≤◌, ℕ, nat_le, nat_lt, Bool, true, false, IsTrue, List, length, Option, Some, None, is_none, All, ⊤}
 use Rattle.std.specs.List.{list_all}
 use Rattle.pvs_base.specs.declared.place.Pos.{Pos}
 use Rattle.pvs_base.specs.Place.{place_after, place_at}
@@ -21,14 +21,12 @@ use Rattle.pvs_syntax.specs.declared.unit.Decl.{Decl}
 use Rattle.pvs_syntax.specs.declared.unit.Decl.TheVariants as decl
 use Rattle.pvs_syntax.specs.declared.unit.Formal.{Formal}
 use Rattle.pvs_syntax.specs.declared.unit.Formal.TheVariants as formal
-use Rattle.pvs_syntax.specs.declared.unit.FormulaWord.{FormulaWord}
 use Rattle.pvs_syntax.specs.declared.unit.FormulaWord.TheVariants as formula_word
 use Rattle.pvs_syntax.specs.declared.unit.Item.{Item}
 use Rattle.pvs_syntax.specs.declared.unit.Item.TheVariants as item
 use Rattle.pvs_syntax.specs.declared.unit.Proof.{Proof}
 use Rattle.pvs_syntax.specs.declared.unit.Theory.{Theory}
 use Rattle.pvs_syntax.specs.declared.unit.Unit as tree
-use Rattle.pvs_syntax.specs.Places.{first_of}
 use Rattle.pvs_syntax.specs.Words.{spelling}
 
 -- ---- Words.
@@ -66,7 +64,8 @@ is_number_in o w = is_word_in o w && is_number (spelling o.text w)
 
 -- The word of a component without a name, whose first token has a place: the word is empty, and stands before that token.
 abbrev pub is_missing_name_in : Origin → Word → Pos → Bool
-is_missing_name_in o w first = ((w.start == w.end) && nat_lt w.end (length o.text)) && (same_place w.pos (o.place w.start) && same_place w.pos first)
+is_missing_name_in o w first =
+    ((w.start == w.end) && nat_lt w.end (length o.text)) && (same_place w.pos (o.place w.start) && same_place w.pos first)
 
 -- ---- Expressions and types.
 
@@ -135,31 +134,45 @@ name_step o n = (is_annotation n.qualifier && is_identifier_in o n.word, qualifi
 
 -- an actual of the text
 abbrev pub is_actual_in : Origin → Actual → Bool
-is_actual_in o = fold-Actual Bool Bool (Bool × Pos) (Bool × Bool) (Bool × Pos) Bool (Bool × Pos) actual_step (expr_step o) (type_step o) (binding_step o) (inst_step o) (part_step o) (name_step o)
+is_actual_in o =
+    fold-Actual Bool Bool (Bool × Pos) (Bool × Bool) (Bool × Pos) Bool (Bool × Pos) actual_step (expr_step o) (type_step o)
+    (binding_step o) (inst_step o) (part_step o) (name_step o)
 
 -- an expression of the text
 abbrev pub is_expr_in : Origin → Expr → Bool
-is_expr_in o = fold-Expr Bool Bool (Bool × Pos) (Bool × Bool) (Bool × Pos) Bool (Bool × Pos) actual_step (expr_step o) (type_step o) (binding_step o) (inst_step o) (part_step o) (name_step o)
+is_expr_in o =
+    fold-Expr Bool Bool (Bool × Pos) (Bool × Bool) (Bool × Pos) Bool (Bool × Pos) actual_step (expr_step o) (type_step o)
+    (binding_step o) (inst_step o) (part_step o) (name_step o)
 
 -- whether a type is of the text, and the place of its first token
 abbrev pub type_in : Origin → TypeExpr → Bool × Pos
-type_in o = fold-TypeExpr Bool Bool (Bool × Pos) (Bool × Bool) (Bool × Pos) Bool (Bool × Pos) actual_step (expr_step o) (type_step o) (binding_step o) (inst_step o) (part_step o) (name_step o)
+type_in o =
+    fold-TypeExpr Bool Bool (Bool × Pos) (Bool × Bool) (Bool × Pos) Bool (Bool × Pos) actual_step (expr_step o) (type_step o)
+    (binding_step o) (inst_step o) (part_step o) (name_step o)
 
 -- whether a binding is a component of the text, and whether it is a variable of the text
 abbrev pub binding_in : Origin → Binding → Bool × Bool
-binding_in o = fold-Binding Bool Bool (Bool × Pos) (Bool × Bool) (Bool × Pos) Bool (Bool × Pos) actual_step (expr_step o) (type_step o) (binding_step o) (inst_step o) (part_step o) (name_step o)
+binding_in o =
+    fold-Binding Bool Bool (Bool × Pos) (Bool × Bool) (Bool × Pos) Bool (Bool × Pos) actual_step (expr_step o) (type_step o)
+    (binding_step o) (inst_step o) (part_step o) (name_step o)
 
 -- whether an instance is of the text, and the place of its first token
 abbrev pub inst_in : Origin → InstExpr → Bool × Pos
-inst_in o = fold-InstExpr Bool Bool (Bool × Pos) (Bool × Bool) (Bool × Pos) Bool (Bool × Pos) actual_step (expr_step o) (type_step o) (binding_step o) (inst_step o) (part_step o) (name_step o)
+inst_in o =
+    fold-InstExpr Bool Bool (Bool × Pos) (Bool × Bool) (Bool × Pos) Bool (Bool × Pos) actual_step (expr_step o) (type_step o)
+    (binding_step o) (inst_step o) (part_step o) (name_step o)
 
 -- a part of a LET of the text
 abbrev pub is_part_in : Origin → LetPart → Bool
-is_part_in o = fold-LetPart Bool Bool (Bool × Pos) (Bool × Bool) (Bool × Pos) Bool (Bool × Pos) actual_step (expr_step o) (type_step o) (binding_step o) (inst_step o) (part_step o) (name_step o)
+is_part_in o =
+    fold-LetPart Bool Bool (Bool × Pos) (Bool × Bool) (Bool × Pos) Bool (Bool × Pos) actual_step (expr_step o) (type_step o)
+    (binding_step o) (inst_step o) (part_step o) (name_step o)
 
 -- whether a name is of the text, and the place of its first token
 abbrev pub name_in : Origin → NameExpr → Bool × Pos
-name_in o = fold-NameExpr Bool Bool (Bool × Pos) (Bool × Bool) (Bool × Pos) Bool (Bool × Pos) actual_step (expr_step o) (type_step o) (binding_step o) (inst_step o) (part_step o) (name_step o)
+name_in o =
+    fold-NameExpr Bool Bool (Bool × Pos) (Bool × Bool) (Bool × Pos) Bool (Bool × Pos) actual_step (expr_step o) (type_step o)
+    (binding_step o) (inst_step o) (part_step o) (name_step o)
 
 abbrev pub IsIdentifierOf : Origin → Word → Type 0
 IsIdentifierOf o w = IsTrue (is_identifier_in o w)
