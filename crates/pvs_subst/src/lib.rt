@@ -1,4 +1,4 @@
-//! Replacement in core trees: lifting, putting in and instances.
+//! Replacement in core trees: lifting, substitution and instances.
 #![tactic(auto)]
 
 mod context;

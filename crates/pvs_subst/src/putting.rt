@@ -1,4 +1,4 @@
-//! Putting a term in for an index.
+//! Substitution of a term for an index.
 
 ghost use Rattle.std.specs.Prelude.{◌≡◌, ℕ, ◌+◌, ◌<◌, ◌^◌, ◌≤◌, length, IfOk, Err};
 ghost use Rattle.pvs_terms.specs.Tree.{depth, IsWithinLimits};
@@ -11,7 +11,7 @@ use crate::fault::SubstFault;
 use crate::lifting::lift;
 use pvs_terms::{Id, Node, Shape, Store};
 
-/// What stands for an index where `arg` is put in for one.
+/// What stands for an index where `arg` is substituted for one.
 #[tactic(auto, using(crate::proofs::ReplaceLaws::put_var_below, crate::proofs::ReplaceLaws::put_var_at, crate::proofs::ReplaceLaws::put_var_above))]
 fn put_index(store: &mut Store, n: u32, arg: Id, at: u32) -> Result<Id, SubstFault>
     requires arg { IsNode store.old arg }
@@ -54,7 +54,7 @@ fn put_below(store: &mut Store, body: Id, arg: Id, at: u32) -> Result<Id, SubstF
     }
 }
 
-/// The parts with `arg` put in.
+/// The parts after substitution of `arg`.
 #[cycle(put)]
 #[tactic(auto, using(pvs_terms::proofs::StoredLaws::extends_trans))]
 fn put_parts(store: &mut Store, shape: Shape, arg: Id, at: u32) -> Result<Shape, SubstFault>
@@ -94,7 +94,7 @@ fn put_parts(store: &mut Store, shape: Shape, arg: Id, at: u32) -> Result<Shape,
     }
 }
 
-/// The body with `arg` in the place of its index 0, and its other free indices lowered.
+/// The body with the term `arg` in the place of its index 0, and its other free indices lowered.
 pub fn put_in(store: &mut Store, body: Id, arg: Id) -> Result<Id, SubstFault>
     requires body { IsNode store.old body }
     requires arg { IsNode store.old arg }
