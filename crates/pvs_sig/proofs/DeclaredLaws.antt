@@ -1,13 +1,14 @@
 -- Actuals in the place of formals leave each reference declared, and a theory of a new name leaves it so too.
-use Rattle.std.proofs.Common.{◌≡◌, ℕ, zero, suc, ◌<◌, Option, Some, None, List, [], ◌∷◌, refl, ap, ◌∙◌, sym, subst, arith, Bool, true, false, cond}
+use Rattle.std.proofs.Common.{◌≡◌, ℕ, zero, suc, Option, Some, None, List, [], ◌∷◌, refl, ap, ◌∙◌, sym, subst, Bool, true, false, cond}
 use Rattle.std.specs.Prelude.{option_map, bytes_eq, slice_get, IsSome}
 use Rattle.std.proofs.lemmas.Slice.Eq.{bytes_eq-Decides}
-use Rattle.pvs_terms.specs.Tree.{Text, Tree, Leaf, Var, Name, Bind, Join, Project, If, Ref, Own, Formal, Inst, Trees, none, more, trees_length, IsClosed, AreClosed}
+use Rattle.pvs_terms.specs.Tree.{Text, Tree, Leaf, Var, Name, Bind, Join, Project, If, Ref, Own, Formal, Inst, Trees, none, more, IsClosed, AreClosed}
 use Rattle.pvs_terms.specs.Sorts.{sort_of, IsSorted, AreSorted}
 use Rattle.pvs_terms.specs.declared.shape.Sort.{Sort}
 use Rattle.pvs_terms.specs.declared.shape.Sort.TheVariants.{OfType, OfTerm}
-use Rattle.pvs_subst.specs.Instance.{actual, instantiate, instantiate_all, FormalsBelow, AllFormalsBelow}
+use Rattle.pvs_subst.specs.Instance.{actual, instantiate, instantiate_all, HasActual, HasActuals, AllHaveActuals}
 use Rattle.pvs_subst.proofs.InstanceLaws.{free-instantiate}
+use Rattle.pvs_subst.proofs.SortLaws.{sort_of-instantiate, IsSorted-instantiate}
 use Rattle.pvs_sig.specs.Signature.{Signature, FormalSig, Kind, TypeSig, ConstSig, VarSig, FormulaSig, kind_in, formals_in, formal_kind, unbound_kind, sort_by_type, instantiate_option, instantiate_kind}
 use Rattle.pvs_sig.specs.Development.{Development, theory_named, HasSort, AreDeclared, MatchFormals, IsTreeOver, IsOptionOver, IsKindOver, IsInstanceOver, IsRefOver, IsSignatureOver}
 
@@ -101,12 +102,12 @@ module _ (d : Development) (s : Signature) (P : Sort → Tree → Type 0) (has :
   actual_has [] (more y ys) n o other h k = absurd h
   actual_has (f ∷ fs) none n o other h k = absurd h
 
-below_length : (d : Development) (s : Signature) (fs : List FormalSig) (xs : Trees) (n : ℕ) (o : Sort) → MatchFormals d s fs xs → HasSort o (option_map formal_kind (slice_get fs n)) → n < trees_length xs
-below_length d s [] none n o h k = absurd (nothing o k)
-below_length d s (f ∷ fs) (more y ys) zero o h k = omega arith
-below_length d s (f ∷ fs) (more y ys) (suc n) o h k = let l = below_length d s fs ys n o h.4 k in omega (arith, l)
-below_length d s [] (more y ys) n o h k = absurd h
-below_length d s (f ∷ fs) none n o h k = absurd h
+has_actual : (d : Development) (s : Signature) (fs : List FormalSig) (xs : Trees) (n : ℕ) (o : Sort) → MatchFormals d s fs xs → HasSort o (option_map formal_kind (slice_get fs n)) → HasActual xs n o
+has_actual d s [] none n o h k = absurd (nothing o k)
+has_actual d s (f ∷ fs) (more y ys) zero o h k = h.0 ∙ sym (formal_sorts o f.nonempty f.ty k)
+has_actual d s (f ∷ fs) (more y ys) (suc n) o h k = has_actual d s fs ys n o h.4 k
+has_actual d s [] (more y ys) n o h k = absurd h
+has_actual d s (f ∷ fs) none n o h k = absurd h
 
 pub are_closed : (d : Development) (s : Signature) (fs : List FormalSig) (xs : Trees) → MatchFormals d s fs xs → AreClosed xs
 are_closed d s [] none h = tt
@@ -125,35 +126,30 @@ module _ (d : Development) (s c : Signature) (th : Text) (acts : Trees) (stands 
   pub instantiate_closed : (t : Tree) → IsClosed t → IsClosed (instantiate t th acts)
   instantiate_closed t h = free-instantiate t th acts (are_closed d s c.formals acts given) ∙ h
 
-  pub instantiate_sort : (t : Tree) → AreDeclared d c t → sort_of (instantiate t th acts) ≡ sort_of t
-  instantiate_sort (Leaf o) h = refl
-  instantiate_sort (Var n) h = refl
-  instantiate_sort (Name o (Own n)) h = refl
-  instantiate_sort (Name o (Formal n)) h = actual_has d s (λ o x. sort_of x ≡ o) (λ o x e f g k. e) c.formals acts n o (Name o (Formal n)) given h
-  instantiate_sort (Name o (Inst a n xs)) h = refl
-  instantiate_sort (Bind o a b) h = refl
-  instantiate_sort (Join o a b) h = refl
-  instantiate_sort (Project o a) h = refl
-  instantiate_sort (If x y z) h = refl
-
+  -- each formal of a tree of c, within the actuals of references too, has an actual
   mutual
-    pub instantiate_sorted : (t : Tree) → IsSorted t → AreDeclared d c t → IsSorted (instantiate t th acts)
-    instantiate_sorted (Leaf o) w h = tt
-    instantiate_sorted (Var n) w h = tt
-    instantiate_sorted (Name o (Own n)) w h = are_sorted d s c.formals acts given
-    instantiate_sorted (Name o (Formal n)) w h = actual_has d s (λ o x. IsSorted x) (λ o x e f g k. g) c.formals acts n o (Name o (Formal n)) given h
-    instantiate_sorted (Name o (Inst a n xs)) w h = instantiate_all_sorted (formals_in (theory_named d a)) xs w h.1
-    instantiate_sorted (Bind o a b) w h = ((w.0.0, instantiate_sort a h.0 ∙ w.0.1, instantiate_sort b h.1 ∙ w.0.2), instantiate_sorted a w.1 h.0, instantiate_sorted b w.2 h.1)
-    instantiate_sorted (Join o a b) w h = ((w.0.0, instantiate_sort a h.0 ∙ w.0.1, instantiate_sort b h.1 ∙ w.0.2), instantiate_sorted a w.1 h.0, instantiate_sorted b w.2 h.1)
-    instantiate_sorted (Project o a) w h = ((w.0.0, instantiate_sort a h ∙ w.0.1), instantiate_sorted a w.1 h)
-    instantiate_sorted (If x y z) w h =
-        ((instantiate_sort x h.0 ∙ w.0.0, instantiate_sort y h.1 ∙ w.0.1, instantiate_sort z h.2 ∙ w.0.2), instantiate_sorted x w.1 h.0, instantiate_sorted y w.2 h.1, instantiate_sorted z w.3 h.2)
+    pub has_actuals : (t : Tree) → AreDeclared d c t → HasActuals acts t
+    has_actuals (Leaf o) h = tt
+    has_actuals (Var n) h = tt
+    has_actuals (Name o (Own n)) h = tt
+    has_actuals (Name o (Formal n)) h = has_actual d s c.formals acts n o given h
+    has_actuals (Name o (Inst a n xs)) h = all_have_actuals (formals_in (theory_named d a)) xs h.1
+    has_actuals (Bind o a b) h = (has_actuals a h.0, has_actuals b h.1)
+    has_actuals (Join o a b) h = (has_actuals a h.0, has_actuals b h.1)
+    has_actuals (Project o a) h = has_actuals a h
+    has_actuals (If x y z) h = (has_actuals x h.0, has_actuals y h.1, has_actuals z h.2)
 
-    pub instantiate_all_sorted : (fs : List FormalSig) (xs : Trees) → AreSorted xs → MatchFormals d c fs xs → AreSorted (instantiate_all xs th acts)
-    instantiate_all_sorted [] none w h = tt
-    instantiate_all_sorted (f ∷ fs) (more y ys) w h = (instantiate_sorted y w.0 h.3, instantiate_all_sorted fs ys w.1 h.4)
-    instantiate_all_sorted [] (more y ys) w h = absurd h
-    instantiate_all_sorted (f ∷ fs) none w h = absurd h
+    pub all_have_actuals : (fs : List FormalSig) (xs : Trees) → MatchFormals d c fs xs → AllHaveActuals acts xs
+    all_have_actuals [] none h = tt
+    all_have_actuals (f ∷ fs) (more y ys) h = (has_actuals y h.3, all_have_actuals fs ys h.4)
+    all_have_actuals [] (more y ys) h = absurd h
+    all_have_actuals (f ∷ fs) none h = absurd h
+
+  pub instantiate_sort : (t : Tree) → AreDeclared d c t → sort_of (instantiate t th acts) ≡ sort_of t
+  instantiate_sort t h = sort_of-instantiate t th acts (has_actuals t h)
+
+  pub instantiate_sorted : (t : Tree) → IsSorted t → AreDeclared d c t → IsSorted (instantiate t th acts)
+  instantiate_sorted t w h = IsSorted-instantiate t th acts (has_actuals t h) (are_sorted d s c.formals acts given) w
 
   mutual
     pub instantiate_declared : (t : Tree) → AreDeclared d c t → AreDeclared d s (instantiate t th acts)
@@ -190,22 +186,3 @@ module _ (d : Development) (s c : Signature) (th : Text) (acts : Trees) (stands 
   instantiate_kind_over (ConstSig t body) h = (instantiate_tree OfType t h.0, instantiate_option_over OfTerm body h.1)
   instantiate_kind_over (VarSig t) h = instantiate_tree OfType t h
   instantiate_kind_over (FormulaSig c t o) h = instantiate_tree OfTerm t h
-
-  -- each formal of a tree of c, within the actuals of references too, has an actual
-  mutual
-    pub has_actuals : (t : Tree) → AreDeclared d c t → FormalsBelow (trees_length acts) t
-    has_actuals (Leaf o) h = tt
-    has_actuals (Var n) h = tt
-    has_actuals (Name o (Own n)) h = tt
-    has_actuals (Name o (Formal n)) h = below_length d s c.formals acts n o given h
-    has_actuals (Name o (Inst a n xs)) h = all_have_actuals (formals_in (theory_named d a)) xs h.1
-    has_actuals (Bind o a b) h = (has_actuals a h.0, has_actuals b h.1)
-    has_actuals (Join o a b) h = (has_actuals a h.0, has_actuals b h.1)
-    has_actuals (Project o a) h = has_actuals a h
-    has_actuals (If x y z) h = (has_actuals x h.0, has_actuals y h.1, has_actuals z h.2)
-
-    pub all_have_actuals : (fs : List FormalSig) (xs : Trees) → MatchFormals d c fs xs → AllFormalsBelow (trees_length acts) xs
-    all_have_actuals [] none h = tt
-    all_have_actuals (f ∷ fs) (more y ys) h = (has_actuals y h.3, all_have_actuals fs ys h.4)
-    all_have_actuals [] (more y ys) h = absurd h
-    all_have_actuals (f ∷ fs) none h = absurd h
