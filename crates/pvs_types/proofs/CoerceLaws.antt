@@ -10,7 +10,7 @@ use Rattle.pvs_subst.specs.Replace.{put_in}
 use Rattle.pvs_subst.specs.Contexts.{Assumptions, Variable}
 use Rattle.pvs_types.specs.ProperTerms.{IsProperTerm}
 use Rattle.pvs_sig.specs.Lookups.{Lookups, type_size, IsOrdered}
-use Rattle.pvs_types.specs.Outcome.{Outcome, Refused, Accepted, after, ◌>>=◌, ◌>>◌, pure, refuse, owe, from_result, within_limits}
+use Rattle.pvs_types.specs.Outcome.{Outcome, Refused, Accepted, outcome_after, ◌>>=◌, ◌>>◌, pure, refuse, owe, from_result, within_limits}
 use Rattle.pvs_types.specs.Forms.{body, by_body, head, up, is_among}
 use Rattle.pvs_types.specs.Coerce.{lift_one, application, first_part, second_part, Coercion, same_type, coerce_pair, coerce_domains, coerce_function, coerce_to, coerce_by, both_sizes, as_coercion, coerce_step, coerce}
 use Rattle.pvs_types.proofs.ProperTermLaws.{proper_is_term}
@@ -26,14 +26,14 @@ then_same {A} {B} o u f g e h = ap (λ x. x >>= f) e ∙ go u
   where
     go : (x : Outcome A) → (x >>= f) ≡ (x >>= g)
     go (Refused c) = refl
-    go (Accepted a cs rs) = ap (after cs rs) (h a)
+    go (Accepted a cs rs) = ap (outcome_after cs rs) (h a)
 
 within_same : {B : Type 0} (t : Tree) (f g : Tree → Outcome B) → f t ≡ g t → (within_limits t >>= f) ≡ (within_limits t >>= g)
-within_same t f g h = within_cases (λ o. (o >>= f) ≡ (o >>= g)) t (ap (after [] []) h) refl
+within_same t f g h = within_cases (λ o. (o >>= f) ≡ (o >>= g)) t (ap (outcome_after [] []) h) refl
 
 result_same : {A B : Type 0} (x : Result A Code) (f g : A → Outcome B) → ((a : A) → x ≡ Ok a → f a ≡ g a)
     → (from_result x >>= f) ≡ (from_result x >>= g)
-result_same (Ok a) f g h = ap (after [] []) (h a refl)
+result_same (Ok a) f g h = ap (outcome_after [] []) (h a refl)
 result_same (Err c) f g h = refl
 
 module _ (s : Lookups) (ordered : IsOrdered s) where

@@ -19,19 +19,19 @@ use Rattle.pvs_types.specs.Forms.{head, up, most, is_known_nonempty}
 use Rattle.pvs_types.specs.Coerce.{coerce}
 use Rattle.pvs_types.specs.Typing.{infer, check, well_formed, negation}
 
-abbrev t : Tree
+abbrev pub t : Tree
 t = TName (Own 0)
 
-abbrev s : Tree
+abbrev pub s : Tree
 s = TName (Own 2)
 
 abbrev u : Tree
 u = TName (Own 4)
 
-abbrev p : Tree → Tree
+abbrev pub p : Tree → Tree
 p x = App (Const (Own 1)) x
 
-abbrev q : Tree → Tree
+abbrev pub q : Tree → Tree
 q x = App (Const (Own 3)) x
 
 abbrev c : Tree
@@ -48,7 +48,7 @@ of_own xs other (Own n) = slice_index_or xs n other
 of_own xs other (Formal n) = other
 of_own xs other (Inst a n acts) = other
 
-abbrev declared : Lookups
+abbrev pub declared : Lookups
 declared = record {
   type_of = of_own (None ∷ Some (TFun t TBool) ∷ None ∷ Some (TFun t TBool) ∷ None ∷ Some s ∷ Some (TFun s s) ∷ Some (TFun t t) ∷ []) None;
   body_of = of_own (None ∷ None ∷ Some (TSub t (p (Var 0))) ∷ None ∷ Some (TSub s (q (Var 0))) ∷ []) None;

@@ -11,11 +11,11 @@ use Rattle.pvs_terms.specs.declared.shape.Sort.TheVariants.{OfType}
 use Rattle.pvs_terms.specs.declared.shape.Binder.TheVariants.{Subtype, Function, Product}
 use Rattle.pvs_sig.specs.Lookups.{Lookups, type_size, IsOrdered}
 use Rattle.pvs_types.specs.Limits.{is_within_limits}
-use Rattle.pvs_types.specs.Forms.{small, small_body, body, by_body, head_by, up_by, mentions, most_pair, most_by, nonempty_by, head, up, most, is_known_nonempty}
+use Rattle.pvs_types.specs.Forms.{small_tree, small_body, body, by_body, head_by, up_by, mentions, most_pair, most_by, nonempty_by, head, up, most, is_known_nonempty}
 use Rattle.pvs_types.proofs.BySizeLaws.{by_size_has, by_size_step}
 
 -- a tree that is needed is that tree, or too large
-pub small_cases : (P : Result Tree Code → Type 0) (t : Tree) → P (Ok t) → P (Err TooLarge) → P (small t)
+pub small_cases : (P : Result Tree Code → Type 0) (t : Tree) → P (Ok t) → P (Err TooLarge) → P (small_tree t)
 small_cases P t h k = go (is_within_limits t)
   where
     go : (b : Bool) → P (cond b (Ok t) (Err TooLarge))
@@ -79,12 +79,12 @@ module _ (s : Lookups) (ordered : IsOrdered s) where
   up_step = by_size_step (type_size s.rank) (up_by s) (λ t. Ok (t ∷ [])) (λ x y z. y ≡ z) up_local
 
   most_pair_same : (go go' : Tree → Result Tree Code) (k : ℕ) (a b : Tree) → go a ≡ go' a → most_pair go k a b ≡ most_pair go' k a b
-  most_pair_same go go' k a b e = ap (λ x. cond (mentions 0 b) (small (TPair k a b)) (x >>= (λ c. small (TPair k c b)))) e
+  most_pair_same go go' k a b e = ap (λ x. cond (mentions 0 b) (small_tree (TPair k a b)) (x >>= (λ c. small_tree (TPair k c b)))) e
 
   most_local : (t : Tree) (go go' : Tree → Result Tree Code) → Agree t go go' → most_by s go t ≡ most_by s go' t
   most_local (Name OfType r) go go' h = by_body_same go go' (Ok (TName r)) r h
   most_local (Bind Subtype a p) go go' h = h a (omega arith)
-  most_local (Bind Function a b) go go' h = ap (λ x. x >>= (λ c. small (TFun a c))) (h b (omega arith))
+  most_local (Bind Function a b) go go' h = ap (λ x. x >>= (λ c. small_tree (TFun a c))) (h b (omega arith))
   most_local (Bind (Product k) a b) go go' h = then_same (go b) (go' b) (most_pair go k a) (most_pair go' k a) (h b (omega arith))
       (λ c. most_pair_same go go' k a c (h a (omega arith)))
   most_local t go go' h = refl

@@ -17,7 +17,7 @@ use Rattle.pvs_sem.proofs.SetLaws.{cases_of, member_subset}
 use Rattle.pvs_sem.proofs.PairLaws.{pairs_wider, some_pair}
 use Rattle.pvs_sem.proofs.TableLaws.{tables_wider, some_table}
 use Rattle.pvs_sig.specs.Lookups.{Lookups, type_size}
-use Rattle.pvs_types.specs.Forms.{small, body, by_body, head_by, up_by, mentions, most_pair, most_by, nonempty_by, head, up, most, is_known_nonempty, is_among, first_among}
+use Rattle.pvs_types.specs.Forms.{small_tree, body, by_body, head_by, up_by, mentions, most_pair, most_by, nonempty_by, head, up, most, is_known_nonempty, is_among, first_among}
 use Rattle.pvs_types.specs.Soundness.{IsModelOf}
 use Rattle.pvs_types.proofs.BySizeLaws.{by_size_has}
 use Rattle.pvs_types.proofs.FormsLaws.{small_cases, body_cases, if_ok_then}
@@ -96,16 +96,16 @@ module _ (m : Model) (s : Lookups) (fits : IsModelOf m s) where
   pair_lies_in k a b c d f g e v q = pairs_wider (λ w. (mean m b (env_with w e)).set) (λ w. (mean m d (env_with w e)).set) v
       (mean m a e).set (mean m c e).set q (f e) (λ x w h l. g (env_with x e) w l)
 
-  small_into : (b t : Tree) → LiesIn b t → Into b (small t)
+  small_into : (b t : Tree) → LiesIn b t → Into b (small_tree t)
   small_into b t h = small_cases (Into b) t h tt
 
   most_pair_into : (go : Tree → Result Tree Code) (k : ℕ) (a b d : Tree) → Into a (go a) → LiesIn b d
       → Into (TPair k a b) (most_pair go k a d)
   most_pair_into go k a b d f g = choose (mentions 0 d)
     where
-      choose : (t : Bool) → Into (TPair k a b) (cond t (small (TPair k a d)) (go a >>= (λ c. small (TPair k c d))))
+      choose : (t : Bool) → Into (TPair k a b) (cond t (small_tree (TPair k a d)) (go a >>= (λ c. small_tree (TPair k c d))))
       choose true = small_into (TPair k a b) (TPair k a d) (pair_lies_in k a b a d (λ e v q. q) g)
-      choose false = if_ok_then (LiesIn a) (LiesIn (TPair k a b)) (go a) (λ c. small (TPair k c d)) f
+      choose false = if_ok_then (LiesIn a) (LiesIn (TPair k a b)) (go a) (λ c. small_tree (TPair k c d)) f
           (λ c w. small_into (TPair k a b) (TPair k c d) (pair_lies_in k a b c d w g))
 
   function_lies_in : (a b c : Tree) → LiesIn b c → LiesIn (TFun a b) (TFun a c)
@@ -115,7 +115,7 @@ module _ (m : Model) (s : Lookups) (fits : IsModelOf m s) where
   most_into : (go : Tree → Result Tree Code) → ((t : Tree) → Into t (go t)) → (b : Tree) → Into b (most_by s go b)
   most_into go ih (Name OfType r) = by_body_into r go ih
   most_into go ih (Bind Subtype a p) = super_into a p (go a) (ih a)
-  most_into go ih (Bind Function a b) = if_ok_then (LiesIn b) (LiesIn (TFun a b)) (go b) (λ c. small (TFun a c)) (ih b)
+  most_into go ih (Bind Function a b) = if_ok_then (LiesIn b) (LiesIn (TFun a b)) (go b) (λ c. small_tree (TFun a c)) (ih b)
       (λ c w. small_into (TFun a b) (TFun a c) (function_lies_in a b c w))
   most_into go ih (Bind (Product k) a b) = if_ok_then (LiesIn b) (LiesIn (TPair k a b)) (go b) (most_pair go k a) (ih b)
       (λ d w. most_pair_into go k a b d (ih a) w)

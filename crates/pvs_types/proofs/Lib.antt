@@ -11,3 +11,4 @@ pub mod TypingSound
 pub mod CoerceLaws
 pub mod UsesLaws
 pub mod Examples
+pub mod ExampleModel

@@ -4,7 +4,7 @@ use Rattle.pvs_base.specs.declared.code.Code.{Code}
 use Rattle.pvs_base.specs.declared.code.Code.TheVariants.{TooLarge}
 use Rattle.pvs_terms.specs.Tree.{Tree, Ref}
 use Rattle.pvs_types.specs.Limits.{is_within_limits}
-use Rattle.pvs_types.specs.Outcome.{Condition, Conditions, Outcome, Refused, Accepted, after, ◌>>=◌, pure, refuse, from_option, from_result, within_limits}
+use Rattle.pvs_types.specs.Outcome.{Condition, Conditions, Outcome, Refused, Accepted, outcome_after, ◌>>=◌, pure, refuse, from_option, from_result, within_limits}
 use Rattle.pvs_types.specs.Soundness.{AllHold, Provides}
 
 -- a tree that a case needs is that tree, or too large
@@ -23,7 +23,7 @@ all_split H (x ∷ xs) ys h = let r = all_split H xs ys h.1 in ((h.0, r.0), r.1)
 module _ (H : Condition → Type 0) (V : Ref → Type 0) where
   provides_after : {A : Type 0} (Q : A → Type 0) (cs : Conditions) (rs : List Ref) (o : Outcome A)
       → (AllHold H cs → AllHold V rs → Provides H V Q o)
-      → Provides H V Q (after cs rs o)
+      → Provides H V Q (outcome_after cs rs o)
   provides_after Q cs rs (Refused c) h = tt
   provides_after Q cs rs (Accepted a ds ss) h = λ t u.
       let x = all_split H cs ds t in

@@ -20,7 +20,7 @@ use Rattle.pvs_terms.proofs.TreeLaws.{tree_eq-true}
 use Rattle.pvs_subst.specs.Replace.{put_in}
 use Rattle.pvs_subst.specs.Contexts.{Assumptions, Variable, Hypothesis}
 use Rattle.pvs_sig.specs.Lookups.{Lookups}
-use Rattle.pvs_types.specs.Outcome.{Conditions, Outcome, Refused, Accepted, after, ◌>>=◌, ◌>>◌, pure, refuse, owe, uses, from_option, from_result, within_limits}
+use Rattle.pvs_types.specs.Outcome.{Conditions, Outcome, Refused, Accepted, outcome_after, ◌>>=◌, ◌>>◌, pure, refuse, owe, uses, from_option, from_result, within_limits}
 use Rattle.pvs_types.specs.Forms.{body, by_body, head, up, most, is_among, first_among}
 use Rattle.pvs_types.specs.Coerce.{lift_one, application, first_part, second_part, Coercion, same_type, coerce_parts, coerce_pair, coerce_domains, coerce_function, coerce_to, coerce_by, both_sizes, as_coercion, coerce_step, coerce}
 use Rattle.pvs_types.specs.Symbols.{symbols}
@@ -48,7 +48,7 @@ same_then rs ss ts h k r = (λ c. (k r).0 ((h r).0 c), λ c. (h r).1 ((k r).1 c)
 -- Steps in turn.
 
 uses_after : {A : Type 0} (rs ss ts : List Ref) (cs : Conditions) (o : Outcome A) → AreSameSymbols rs ss → Uses ts o
-    → Uses (ss ++ ts) (after cs rs o)
+    → Uses (ss ++ ts) (outcome_after cs rs o)
 uses_after rs ss ts cs (Refused c) h k = tt
 uses_after rs ss ts cs (Accepted a ds us) h k = same_append rs ss us ts h k
 

@@ -13,12 +13,12 @@ use Rattle.pvs_types.specs.Limits.{is_within_limits}
 use Rattle.pvs_types.specs.BySize.{by_size}
 
 -- a tree that a form needs
-abbrev pub small : Tree → Result Tree Code
-small t = if is_within_limits t then Ok t else Err TooLarge
+abbrev pub small_tree : Tree → Result Tree Code
+small_tree t = if is_within_limits t then Ok t else Err TooLarge
 
 abbrev pub small_body : Option Tree → Result (Option Tree) Code
 small_body None = Ok None
-small_body (Some t) = small t >>= (λ t. Ok (Some t))
+small_body (Some t) = small_tree t >>= (λ t. Ok (Some t))
 
 -- the body of a type's name; None where it is not defined
 abbrev pub body : Lookups → Ref → Result (Option Tree) Code
@@ -62,9 +62,9 @@ mentions n (If c a b) = mentions n c || (mentions n a || mentions n b)
 
 -- the first component is widened only where the second does not mention its variable
 abbrev pub most_pair : (Tree → Result Tree Code) → ℕ → Tree → Tree → Result Tree Code
-most_pair go k a most_b = if mentions 0 most_b then small (TPair k a most_b) else (do
+most_pair go k a most_b = if mentions 0 most_b then small_tree (TPair k a most_b) else (do
   most_a ← go a
-  small (TPair k most_a most_b))
+  small_tree (TPair k most_a most_b))
 
 -- subtypes give way to their supertypes, but in the domains of functions
 abbrev pub most_by : Lookups → (Tree → Result Tree Code) → Tree → Result Tree Code
@@ -74,7 +74,7 @@ most_by s go (Name OfType r) = do
 most_by s go (Bind Subtype a p) = go a
 most_by s go (Bind Function a b) = do
   most_b ← go b
-  small (TFun a most_b)
+  small_tree (TFun a most_b)
 most_by s go (Bind (Product k) a b) = do
   most_b ← go b
   most_pair go k a most_b

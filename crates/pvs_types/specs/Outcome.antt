@@ -18,15 +18,15 @@ pub data Outcome (A : Type 0) : Type 0 where
   Accepted : A → Conditions → List Ref → Outcome A
 
 -- an outcome after these conditions and symbols
-abbrev pub after : {A : Type 0} → Conditions → List Ref → Outcome A → Outcome A
-after cs rs (Refused c) = Refused c
-after cs rs (Accepted a ds ss) = Accepted a (cs ++ ds) (rs ++ ss)
+abbrev pub outcome_after : {A : Type 0} → Conditions → List Ref → Outcome A → Outcome A
+outcome_after cs rs (Refused c) = Refused c
+outcome_after cs rs (Accepted a ds ss) = Accepted a (cs ++ ds) (rs ++ ss)
 
 -- one step and then the next: the first code, or the conditions and symbols of both, in order
 infixl 10 ◌>>=◌
 abbrev pub ◌>>=◌ : {A B : Type 0} → Outcome A → (A → Outcome B) → Outcome B
 Refused c >>= f = Refused c
-Accepted a cs rs >>= f = after cs rs (f a)
+Accepted a cs rs >>= f = outcome_after cs rs (f a)
 
 infixl 10 ◌>>◌
 abbrev pub ◌>>◌ : {A B : Type 0} → Outcome A → Outcome B → Outcome B

@@ -13,7 +13,7 @@ use Rattle.pvs_terms.specs.declared.shape.Joint.{Joint}
 use Rattle.pvs_terms.specs.declared.shape.Joint.TheVariants.{Apply, Tuple, Equal}
 use Rattle.pvs_terms.specs.declared.shape.Projection.{Projection}
 use Rattle.pvs_terms.specs.declared.shape.Projection.TheVariants.{First, Second}
-use Rattle.pvs_subst.specs.Replace.{put_in}
+use Rattle.pvs_subst.specs.Replace.{lift, put_in}
 use Rattle.pvs_subst.specs.Contexts.{Assumptions, Variable, Hypothesis}
 use Rattle.pvs_sig.specs.Lookups.{Lookups}
 use Rattle.pvs_types.specs.Outcome.{Outcome, ◌>>=◌, ◌>>◌, pure, refuse, uses, from_option, from_result, within_limits}
@@ -21,16 +21,20 @@ use Rattle.pvs_types.specs.Forms.{head, up, most, first_among}
 use Rattle.pvs_types.specs.Coerce.{lift_one, coerce}
 use Rattle.pvs_types.specs.Symbols.{symbols}
 
--- the type of a variable, lifted over the variables that are bound after it
-abbrev pub lift_option : Option Tree → Option Tree
-lift_option None = None
-lift_option (Some t) = Some (lift_one t)
+-- the type of a variable, as it stands at its binder
+abbrev pub binder_type : Assumptions → ℕ → Option Tree
+binder_type [] n = None
+binder_type (Variable a ∷ g) zero = Some a
+binder_type (Variable a ∷ g) (suc n) = binder_type g n
+binder_type (Hypothesis p ∷ g) n = binder_type g n
 
+abbrev pub lift_option : ℕ → Option Tree → Option Tree
+lift_option by None = None
+lift_option by (Some t) = Some (lift t by 0)
+
+-- the type of a variable where it is used: lifted over itself and the variables that are bound after it
 abbrev pub variable_type : Assumptions → ℕ → Option Tree
-variable_type [] n = None
-variable_type (Variable a ∷ g) zero = Some (lift_one a)
-variable_type (Variable a ∷ g) (suc n) = lift_option (variable_type g n)
-variable_type (Hypothesis p ∷ g) n = variable_type g n
+variable_type g n = lift_option (suc n) (binder_type g n)
 
 abbrev pub negation : Tree → Tree
 negation t = If t False True
