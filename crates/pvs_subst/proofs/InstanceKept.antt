@@ -1,7 +1,7 @@
 -- What an instance is given, and what it makes, in a store that has grown.
 use Rattle.std.proofs.Common.{◌≡◌, ℕ, zero, suc, ◌<◌, List, [], ◌∷◌, length, insert, refl, sym, ◌∙◌, ap, ap₂, subst, arith}
 use Rattle.std.specs.Prelude.{slice_index_or}
-use Rattle.pvs_terms.specs.Tree.{Tree, Trees, more, If, IsWithinLimits, AreClosed, trees_length}
+use Rattle.pvs_terms.specs.Tree.{Tree, Trees, more, If, IsWithinLimits, AreClosed}
 use Rattle.pvs_terms.specs.declared.shape.Sort.{Sort}
 use Rattle.pvs_terms.specs.Stored.{Stored, tree_at, trees_at, text_at, IsNode, AreNodes, AllBelow, Extends, Stands, StandsAs}
 use Rattle.pvs_terms.specs.declared.shape.Shape.TheVariants.{Choose}

@@ -1,5 +1,5 @@
 -- Laws of instances, for all trees.
-use Rattle.std.proofs.Common.{◌≡◌, ℕ, zero, suc, ◌<◌, refl, ap, ◌∙◌, sym, arith, Bool, true, false, ◌||◌}
+use Rattle.std.proofs.Common.{◌≡◌, ℕ, zero, suc, refl, ap, ◌∙◌, sym, arith, Bool, true, false, ◌||◌}
 use Rattle.pvs_terms.specs.Tree.{Text, Tree, Leaf, Var, Name, Bind, Join, Project, If, Own, Formal, Inst, Trees, none, more, free_below, IsClosed, AreClosed, is_local, trees_local, trees_length}
 use Rattle.pvs_terms.specs.declared.shape.Sort.{Sort}
 use Rattle.pvs_subst.specs.Replace.{lift, put_var, put_at, put_in}

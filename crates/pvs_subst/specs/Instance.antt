@@ -1,6 +1,6 @@
 -- Instances: the formals of a theory become actuals, and its own entries those of the instance.
 use Rattle.std.specs.Prelude.{ℕ, zero, suc, ◌≡◌, ◌<◌, ◌≤◌}
-use Rattle.pvs_terms.specs.Tree.{Text, Tree, Leaf, Var, Name, Bind, Join, Project, If, Ref, Own, Formal, Inst, Trees, none, more, trees_depth, trees_size, trees_top}
+use Rattle.pvs_terms.specs.Tree.{Text, Tree, Leaf, Var, Name, Bind, Join, Project, If, Own, Formal, Inst, Trees, none, more, trees_depth, trees_size, trees_top}
 use Rattle.pvs_terms.specs.Sorts.{sort_of}
 use Rattle.pvs_terms.specs.declared.shape.Sort.{Sort}
 

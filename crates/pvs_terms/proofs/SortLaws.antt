@@ -1,5 +1,5 @@
 -- Laws of sorts: of a whole tree from its parts, and of the trees of a store.
-use Rattle.std.proofs.Common.{◌≡◌, ℕ, ◌<◌, List, [], ◌∷◌, length}
+use Rattle.std.proofs.Common.{ℕ, ◌<◌, List, [], ◌∷◌, length}
 use Rattle.pvs_terms.specs.Tree.{Tree, Leaf, Var, Name, Bind, Join, Project, If, Ref, Own, Formal, Inst, ref_actuals}
 use Rattle.pvs_terms.specs.Sorts.{HasSorts, IsSorted, IsSortedRef, AreSorted}
 use Rattle.pvs_terms.specs.declared.shape.Shape.{Shape}

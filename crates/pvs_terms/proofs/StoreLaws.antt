@@ -18,7 +18,6 @@ use Rattle.std.proofs.Common.{length-append, inl, inr, ◌⊎◌}
 use Rattle.pvs_terms.specs.Shapes.{shape_of}
 use Rattle.pvs_terms.specs.Measures.{measure_of, ref_measure, IsSmall}
 use Rattle.pvs_terms.specs.Sorts.{HasSorts, IsSorted, IsSortedRef}
-use Rattle.pvs_terms.specs.Tree.{Tree}
 use Rattle.std.specs.Map.{keys_of}
 use Rattle.std.proofs.Common.{Some, slice_get}
 use Rattle.std.proofs.lemmas.Option.{same_Some}

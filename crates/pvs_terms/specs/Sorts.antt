@@ -1,6 +1,6 @@
 -- The sorts of trees: which are types and which are terms, and the trees whose nodes have parts of
 -- the right sorts.
-use Rattle.std.specs.Prelude.{ℕ, ◌≡◌, ◌≤◌}
+use Rattle.std.specs.Prelude.{◌≡◌, ◌≤◌}
 use Rattle.pvs_terms.specs.Tree.{Tree, Leaf, Var, Name, Bind, Join, Project, If, Ref, Own, Formal, Inst, Trees, none, more}
 use Rattle.pvs_terms.specs.declared.shape.Plain.{Plain}
 use Rattle.pvs_terms.specs.declared.shape.Plain.TheVariants.{BoolType, Yes, No}

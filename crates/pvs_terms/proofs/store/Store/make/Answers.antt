@@ -1,4 +1,4 @@
-use Rattle.std.proofs.Common.{rules, ◌≡◌, ◌∙◌, sym, subst, refl}
+use Rattle.std.proofs.Common.{rules, ◌∙◌, sym, subst, refl}
 use Rattle.pvs_terms.specs.Stored.{Stands, node_tree}
 use Rattle.pvs_terms.specs.StoreView.{stored}
 use Rattle.pvs_terms.specs.Measures.{IsSmall}
