@@ -47,7 +47,7 @@ is_eq-then Greater b = refl
 pub is_eq-formula : (n m : FormulaName) → is_eq (ordering_then (slice_cmp nat_cmp n.theory m.theory) (slice_cmp nat_cmp n.formula m.formula)) ≡ is_same n m
 is_eq-formula n m = is_eq-then (slice_cmp nat_cmp n.theory m.theory) (slice_cmp nat_cmp n.formula m.formula) ∙ ap₂ (λ (a b : Bool). a && b) (is_eq-slice_cmp n.theory m.theory) (is_eq-slice_cmp n.formula m.formula)
 
-or_false : (b : Bool) → b || false ≡ b
+pub or_false : (b : Bool) → b || false ≡ b
 or_false true = refl
 or_false false = refl
 

@@ -9,9 +9,10 @@ pub mod Resolving
 pub mod RepeatLaws
 pub mod PartLaws
 pub mod LemmaLaws
-pub mod GoingLaws
+pub mod OutcomeLaws
 pub mod ReportOf
 pub mod OutputLaws
+pub mod Members
 pub mod SoundVerdicts
 pub mod SoundNames
 pub mod SoundTheories

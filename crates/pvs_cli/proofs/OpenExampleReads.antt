@@ -6,7 +6,7 @@ use Rattle.pvs_parser.specs.declared.terminal.Connective.TheVariants as connecti
 use Rattle.pvs_parser.specs.declared.terminal.Terminal.{Terminal}
 use Rattle.pvs_parser.specs.declared.terminal.TerminalKind.{TerminalKind}
 use Rattle.pvs_parser.specs.declared.terminal.TerminalKind.TheVariants as kind
-use Rattle.pvs_parser.specs.Language.{Derives, Plain, bounded, outermost, whole as expression}
+use Rattle.pvs_parser.specs.Language.{Derives, Plain, language_limit, outermost, whole as expression}
 use Rattle.pvs_parser.specs.Units.{DerivesIds, DerivesFormalPart, DerivesAssuming, DerivesDecl, DerivesSemicolon, DerivesMany, DerivesTheory, DerivesItems}
 use Rattle.pvs_parser.specs.Text.{Terminals, terminals_of_text, IsAnswer}
 use Rattle.pvs_syntax.specs.declared.expression.TypeExpr.TheVariants as type_expr
@@ -64,19 +64,19 @@ unfolding tokens_of longest keyword_of
 lexed = refl
 
 -- the lemma says p
-formula : Derives bounded (expression Plain) outermost (p3 ∷ []) says_p outermost
+formula : Derives language_limit (expression Plain) outermost (p3 ∷ []) says_p outermost
 formula =
     Derives.alone connective.Iff Plain _ _ _ _ (Derives.alone connective.Implies Plain _ _ _ _ (Derives.alone connective.Or Plain _ _ _ _ (Derives.alone connective.And Plain _ _ _ _
     (Derives.compared _ _ _ _ (Derives.term _ _ _ _ _ (Derives.name_term _ _ _ _ (Derives.plain_name outermost p3 refl)))))))
 
-declared : DerivesMany (DerivesDecl bounded) (p1 ∷ colon1 ∷ bool1 ∷ l2 ∷ colon2 ∷ lemma2 ∷ p3 ∷ []) (p_decl ∷ l_decl ∷ [])
+declared : DerivesMany (DerivesDecl language_limit) (p1 ∷ colon1 ∷ bool1 ∷ l2 ∷ colon2 ∷ lemma2 ∷ p3 ∷ []) (p_decl ∷ l_decl ∷ [])
 declared =
     DerivesMany.more (p1 ∷ colon1 ∷ bool1 ∷ []) [] (l2 ∷ colon2 ∷ lemma2 ∷ p3 ∷ []) (p_decl ∷ []) (l_decl ∷ [])
     (DerivesDecl.constants (p1 ∷ []) (bool1 ∷ []) (p1.word ∷ []) (type_expr.NameType (plain (word 19 23 20))) outermost colon1 (DerivesIds.one p1 refl) refl (Derives.name_type _ _ _ _ (Derives.plain_name outermost bool1 refl)))
     DerivesSemicolon.none
     (DerivesMany.more (l2 ∷ colon2 ∷ lemma2 ∷ p3 ∷ []) [] [] (l_decl ∷ []) [] (DerivesDecl.formula Plain (p3 ∷ []) says_p _ outermost l2 colon2 lemma2 refl refl refl formula) DerivesSemicolon.none DerivesMany.none)
 
-derived : DerivesItems bounded bytes tokens.tokens whole.items
+derived : DerivesItems language_limit bytes tokens.tokens whole.items
 derived =
     DerivesItems.theory tokens.tokens [] small []
     (DerivesTheory.theory [] [] (p1 ∷ colon1 ∷ bool1 ∷ l2 ∷ colon2 ∷ lemma2 ∷ p3 ∷ []) [] [] (p_decl ∷ l_decl ∷ []) p0 colon0 theory0 begin0 end0 p4 refl DerivesFormalPart.none refl refl refl DerivesAssuming.none declared refl refl refl)
@@ -86,5 +86,5 @@ pub reads : IsAnswer bytes (Ok whole)
 reads = record {
   small = omega arith;
   faultless = ap (λ (z : Terminals). z.fault) lexed;
-  derives = subst (λ (z : Terminals). DerivesItems bounded bytes z.tokens whole.items) (sym lexed) derived;
+  derives = subst (λ (z : Terminals). DerivesItems language_limit bytes z.tokens whole.items) (sym lexed) derived;
 }

@@ -19,13 +19,13 @@ use Rattle.pvs_cli.specs.Reporting.{IsReport, OneAnswer, answer_lines, of_text, 
 use Rattle.pvs_cli.specs.Input.{ReadsText}
 use Rattle.pvs_cli.specs.Output.{Adds, HasOneOutput, IsCheck, IsOutput, IsReportOf, Writes, WritesFor, WritesOutput, WritesReport, WritesReportOf, exit_status, has_whole_output, is_unfinished, report, text_of, usage, usage_line}
 use Rattle.pvs_cli.proofs.LineLaws.{bytes_push}
+use Rattle.pvs_cli.proofs.ReportOf.{one_report}
+use Rattle.pvs_script.specs.Reading.{script_of}
+use Rattle.pvs_script.proofs.Verdicts.{script_answer}
 
 -- each text has an answer
 answer_exists : (text : List ℕ) → (a : Result unit.Unit Fault) × IsAnswer text a
 answer_exists text = (read_text text, text_answer text)
-
-pub one_report : OneAnswer → (text : List ℕ) (ls ms : List Line) → IsReport text ls → IsReport text ms → ls ≡ ms
-one_report one text _ _ (of_text a h) (of_text b k) = ap (λ a. with_total (answer_lines text a)) (one text a b h k)
 
 same_output : OneAnswer → (words : List (List ℕ)) (input bytes others : List ℕ) (end other : Status) → IsOutput words input bytes end → IsOutput words input others other → (bytes ≡ others) × (end ≡ other)
 same_output one words input _ _ _ _ (usage n) (usage m) = (refl, refl)
@@ -51,7 +51,7 @@ report_lines_some ls =
     subst (λ (xs : List ℕ). 0 < length xs) (sym e) (omega (arith, length-append (bytes_of ls) (line_bytes last), n))
 
 report_some : (text : List ℕ) (ls : List Line) → IsReport text ls → 0 < length (bytes_of ls)
-report_some text _ (of_text a h) = report_lines_some (answer_lines text a)
+report_some text _ (of_text s r a h) = report_lines_some (answer_lines s text a)
 
 pub report_of_some : (text bytes : List ℕ) (end : Status) → IsReportOf text bytes end → 0 < length bytes
 report_of_some text bytes end r = subst (λ (xs : List ℕ). 0 < length xs) (sym r.2) (report_some text r.0 r.1)
@@ -60,8 +60,8 @@ report_of_some text bytes end r = subst (λ (xs : List ℕ). 0 < length xs) (sym
 pub each_has_report : (text : List ℕ) → (bytes : List ℕ) × (end : Status) × IsReportOf text bytes end
 each_has_report text =
     let a = answer_exists text in
-    let lines : List Line = with_total (answer_lines text a.0) in
-    (bytes_of lines, exit_status lines, (lines, of_text a.0 a.1, refl, refl))
+    let lines : List Line = with_total (answer_lines script_of text a.0) in
+    (bytes_of lines, exit_status lines, (lines, of_text script_of script_answer a.0 a.1, refl, refl))
 
 -- the bytes before the rest were added
 abbrev pub AddsUpTo : Option (List ℕ) → Option (List ℕ) → List ℕ → List ℕ → Type 0

@@ -17,7 +17,7 @@ all_from_map P f [] h = All-nil (λ x. P (f x))
 all_from_map P f (x ∷ xs) h = All-cons (λ y. P (f y)) x xs (All-head P (f x) (map f xs) h) (all_from_map P f xs (All-tail P (f x) (map f xs) h))
 
 module _ (text : List ℕ) where
-  -- the parts of the items before an item, that of the item, and those of the items behind it
+  -- the parts of the items before an item, that of the item, and those of the items after it
   pub parts_split : (earlier before after : List Item) (i : Item) → parts_after text earlier (before ++ i ∷ after) ≡ parts_after text earlier before ++ part_of text (earlier ++ before) i ∷ parts_after text (earlier ++ before ++ i ∷ []) after
   parts_split earlier [] after i = ap (λ (is : List Item). part_of text is i ∷ parts_after text (is ++ i ∷ []) after) (sym (append-nil earlier))
   parts_split earlier (b ∷ before) after i =
@@ -27,15 +27,15 @@ module _ (text : List ℕ) where
   pub parts_push : (is : List Item) (i : Item) → parts_of text (is ++ i ∷ []) ≡ parts_of text is ++ part_of text is i ∷ []
   parts_push is i = parts_split [] is [] i
 
-  theory_in : (name : List ℕ) (r : Result (List Entry) Fault) → IsPartIn text (theory_part name r)
+  theory_in : (name : List ℕ) (r : Result (List Entry) Fault) → IsPartIn (theory_part name r)
   theory_in name (Ok es) = tt
   theory_in name (Err f) = tt
 
-  part_in : (earlier : List Item) (i : Item) → SpanIn text i → IsPartIn text (part_of text earlier i)
+  part_in : (earlier : List Item) (i : Item) → SpanIn text i → IsPartIn (part_of text earlier i)
   part_in earlier (item.Theory t) h = theory_in (spelling text t.name) (theory_entries text earlier t)
   part_in earlier (item.Proof p) h = h
 
   -- the scripts of the parts of a unit lie in the text where those of its items do
-  pub parts_in : (earlier is : List Item) → All (SpanIn text) is → All (IsPartIn text) (parts_after text earlier is)
-  parts_in earlier [] h = All-nil (IsPartIn text)
-  parts_in earlier (i ∷ is) h = All-cons (IsPartIn text) (part_of text earlier i) (parts_after text (earlier ++ i ∷ []) is) (part_in earlier i (All-head (SpanIn text) i is h)) (parts_in (earlier ++ i ∷ []) is (All-tail (SpanIn text) i is h))
+  pub parts_in : (earlier is : List Item) → All (SpanIn text) is → All IsPartIn (parts_after text earlier is)
+  parts_in earlier [] h = All-nil IsPartIn
+  parts_in earlier (i ∷ is) h = All-cons IsPartIn (part_of text earlier i) (parts_after text (earlier ++ i ∷ []) is) (part_in earlier i (All-head (SpanIn text) i is h)) (parts_in (earlier ++ i ∷ []) is (All-tail (SpanIn text) i is h))

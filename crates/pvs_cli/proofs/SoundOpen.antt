@@ -14,12 +14,16 @@ use Rattle.pvs_parser.specs.Text.{IsAnswer}
 use Rattle.pvs_terms.specs.Tree.{Tree, Own, Const}
 use Rattle.pvs_sem.specs.Truth.{Interpretation}
 use Rattle.pvs_cli.specs.Forms as forms
-use Rattle.pvs_cli.specs.Entries.{Entry, Constant, Formula, core, entries_after, entries_of, named, named_constant, not_built}
+use Rattle.pvs_cli.specs.Entries.{Entry, Constant, Formula, core, entries_after, entries_of, named, named_constant, out_of_profile}
 use Rattle.pvs_base.specs.Answers.{◌>>=◌}
 use Rattle.pvs_cli.specs.Entries as entries_spec
-use Rattle.pvs_cli.specs.Theories.{first_repeated, once, theory_entries, theory_part}
+use Rattle.pvs_cli.specs.Theories.{Accepted, first_repeated, unless_repeated, theory_entries, theory_part}
 use Rattle.pvs_cli.specs.Lines.{Line, FormulaLine, TotalLine, OpenWord, totals_of}
-use Rattle.pvs_cli.specs.Reporting.{of_text, parts_lines, unit_lines, with_total}
+use Rattle.pvs_cli.specs.Reporting.{of_text, outcome_lines, unit_lines, with_total}
+use Rattle.pvs_cli.specs.Verdicts.{Scripts}
+use Rattle.pvs_cli.specs.Outcomes.{outcomes_of}
+use Rattle.pvs_script.specs.Reading.{script_of}
+use Rattle.pvs_script.proofs.Verdicts.{script_answer}
 use Rattle.pvs_cli.specs.Soundness.{Fits}
 use Rattle.pvs_cli.specs.SoundFacts.{ReportedCanBeFalse}
 use Rattle.pvs_cli.specs.OpenExample.{bytes, plain, says_p, small, whole, word}
@@ -67,7 +71,7 @@ read : entries_of bytes small.name.pos small.decls ≡ Ok entries
 read = ap (λ (r : Result Tree Fault). r >>= (λ t. Ok (named bytes (word 24 25 25) (Formula formula_word.Lemma t))) >>= (λ e. entries_after bytes small.name.pos (p_entry ∷ e ∷ []) [])) (core_name (word 33 34 34) bytes small.name.pos (p_entry ∷ []))
 
 accepted : theory_entries bytes [] small ≡ Ok entries
-accepted = ap (λ (b : Bool). if not b then Err (not_built small.name.pos) else once (first_repeated bytes [] small.decls) (entries_of bytes small.name.pos small.decls)) built ∙ read
+accepted = ap (λ (b : Bool). if not b then Err (out_of_profile small.name.pos) else unless_repeated (first_repeated bytes [] small.decls) (entries_of bytes small.name.pos small.decls)) built ∙ read
 
 -- ---- Its lemma is printed open, and is FALSE where every constant is.
 
@@ -83,34 +87,36 @@ no_axiom (suc i) name t h e = absurd (omega arith)
 abbrev line : Line
 line = FormulaLine (codes "p") (codes "l") OpenWord
 
-printed : (r : Result (List Entry) Fault) → r ≡ Ok entries → Contains (parts_lines bytes (theory_part (codes "p") r ∷ [])) line
-printed r e = subst (λ (q : Result (List Entry) Fault). Contains (parts_lines bytes (theory_part (codes "p") q ∷ [])) line) (sym e) (1, omega arith, refl)
+module _ (scripts : Scripts) where
+  printed : (r : Result (List Entry) Fault) → r ≡ Ok entries → Contains (outcome_lines (outcomes_of scripts (theory_part (codes "p") r ∷ []))) line
+  printed r e = subst (λ (q : Result (List Entry) Fault). Contains (outcome_lines (outcomes_of scripts (theory_part (codes "p") q ∷ []))) line) (sym e) (1, omega arith, refl)
 
-open_line : Contains (unit_lines bytes whole.items) line
-open_line = printed (theory_entries bytes [] small) accepted
+  open_line : Contains (unit_lines scripts bytes whole.items) line
+  open_line = printed (theory_entries bytes [] small) accepted
+
+among : (r : Result (List Entry) Fault) → r ≡ Ok entries → Contains (theory_part (codes "p") r ∷ []) (Accepted (codes "p") entries)
+among r e = subst (λ (q : Result (List Entry) Fault). Contains (theory_part (codes "p") q ∷ []) (Accepted (codes "p") entries)) (sym e) (0, omega arith, refl)
 
 -- a lemma that is printed open can be FALSE, where the text reads as the unit
 pub reported_can_be_false : IsAnswer bytes (Ok whole) → ReportedCanBeFalse
-reported_can_be_false reads = (
-  bytes,
-  with_total (unit_lines bytes whole.items),
-  whole,
-  [],
-  [],
-  small,
-  entries,
-  1,
-  codes "l",
-  Const (Own 0),
-  nothing,
-  reads,
-  refl,
-  of_text (Ok whole) reads,
-  record {
-    accepted = accepted;
-    stated = refl;
-    printed = Contains-append_left (unit_lines bytes whole.items) (TotalLine (totals_of (unit_lines bytes whole.items)) ∷ []) line open_line;
-    fits = no_axiom;
-    untrue = refl;
-  },
-)
+reported_can_be_false reads =
+    let lines = unit_lines script_of bytes whole.items in (
+      bytes,
+      with_total lines,
+      whole,
+      codes "p",
+      entries,
+      1,
+      codes "l",
+      Const (Own 0),
+      nothing,
+      reads,
+      of_text script_of script_answer (Ok whole) reads,
+      record {
+        accepted = among (theory_entries bytes [] small) accepted;
+        stated = refl;
+        printed = Contains-append_left lines (TotalLine (totals_of lines) ∷ []) line (open_line script_of);
+        fits = no_axiom;
+        untrue = refl;
+      },
+    )

@@ -1,5 +1,5 @@
 -- The lemma of an accepted theory is the one that its name finds in the unit.
-use Rattle.std.proofs.Common.{◌≡◌, ◌∙◌, refl, ap, ℕ, Bool, true, false, not, ◌||◌, bytes_eq, if◌then◌else◌, List, [], ◌∷◌, ◌++◌, slice_get, Option, Some, None, Result, Ok, Err}
+use Rattle.std.proofs.Common.{◌≡◌, ◌∙◌, refl, sym, ap, append_assoc, append-nil, inl, inr, Contains, ℕ, Bool, true, false, not, ◌||◌, bytes_eq, if◌then◌else◌, List, [], ◌∷◌, ◌++◌, slice_get, Option, Some, None, Result, Ok, Err}
 use Rattle.std.specs.Cmp.Lexicographic.{bytes_decides}
 use Rattle.std.proofs.lemmas.Cmp.{nat_list_eq_equiv}
 use Rattle.pvs_base.specs.declared.code.Fault.{Fault}
@@ -12,10 +12,11 @@ use Rattle.pvs_terms.specs.Tree.{Tree}
 use Rattle.pvs_cli.specs.Names.{FormulaName}
 use Rattle.pvs_syntax.specs.Words.{spelling}
 use Rattle.pvs_cli.specs.Forms.{is_built_theory}
-use Rattle.pvs_cli.specs.Entries.{Entry, Formula, entries_of, not_built}
-use Rattle.pvs_cli.specs.Theories.{Part, duplicate, first_repeated, has_name, once, part_of, parts_after, parts_of, theory_entries, theory_names, theory_part, told_entries}
+use Rattle.pvs_cli.specs.Entries.{Entry, Formula, entries_of, out_of_profile}
+use Rattle.pvs_cli.specs.Theories.{Part, Accepted, duplicate, first_repeated, has_name, unless_repeated, part_of, parts_after, parts_of, theory_entries, theory_names, theory_part, accepted_entries}
 use Rattle.pvs_cli.specs.Verdicts.{lemma_in, lemma_named, or_else, part_lemma}
 use Rattle.pvs_cli.proofs.LemmaLaws.{lemma_in-append}
+use Rattle.pvs_cli.proofs.Members.{Has, has_contained}
 use Rattle.pvs_cli.proofs.PartLaws.{parts_split}
 use Rattle.pvs_cli.proofs.SoundNames.{are_distinct, distinct_names, entry_names, found_by_name, names_of_entries}
 
@@ -25,18 +26,18 @@ pub record IsAccepted (text : List ℕ) (again : Bool) (t : Theory) (es : List E
   pub apart : first_repeated text [] t.decls ≡ None
   pub entries : entries_of text t.name.pos t.decls ≡ Ok es
 
-pub told_accepted : (text : List ℕ) (again : Bool) (t : Theory) (es : List Entry) → told_entries text again t ≡ Ok es → IsAccepted text again t es
-told_accepted text again t es h = built (is_built_theory text t) h
+pub entries_accepted : (text : List ℕ) (again : Bool) (t : Theory) (es : List Entry) → accepted_entries text again t ≡ Ok es → IsAccepted text again t es
+entries_accepted text again t es h = built (is_built_theory text t) h
   where
-    repeats : (o : Option Word) (r : Result (List Entry) Fault) → once o r ≡ Ok es → (o ≡ None) × (r ≡ Ok es)
+    repeats : (o : Option Word) (r : Result (List Entry) Fault) → unless_repeated o r ≡ Ok es → (o ≡ None) × (r ≡ Ok es)
     repeats None r h = (refl, h)
     repeats (Some w) r h = cc
 
-    named : (b : Bool) → (if b then Err (duplicate t.name) else once (first_repeated text [] t.decls) (entries_of text t.name.pos t.decls)) ≡ Ok es → (b ≡ false) × (first_repeated text [] t.decls ≡ None) × (entries_of text t.name.pos t.decls ≡ Ok es)
+    named : (b : Bool) → (if b then Err (duplicate t.name) else unless_repeated (first_repeated text [] t.decls) (entries_of text t.name.pos t.decls)) ≡ Ok es → (b ≡ false) × (first_repeated text [] t.decls ≡ None) × (entries_of text t.name.pos t.decls ≡ Ok es)
     named true h = cc
     named false h = let r = repeats (first_repeated text [] t.decls) (entries_of text t.name.pos t.decls) h in (refl, r.0, r.1)
 
-    built : (b : Bool) → (if not b then Err (not_built t.name.pos) else (if again then Err (duplicate t.name) else once (first_repeated text [] t.decls) (entries_of text t.name.pos t.decls))) ≡ Ok es → IsAccepted text again t es
+    built : (b : Bool) → (if not b then Err (out_of_profile t.name.pos) else (if again then Err (duplicate t.name) else unless_repeated (first_repeated text [] t.decls) (entries_of text t.name.pos t.decls))) ≡ Ok es → IsAccepted text again t es
     built true h = let r = named again h in record { first = r.0; apart = r.1; entries = r.2 }
     built false h = cc
 
@@ -62,13 +63,46 @@ or_else-Some : (o p : Option Tree) (t : Tree) → o ≡ Some t → or_else o p �
 or_else-Some (Some s) p t h = h
 or_else-Some None p t h = cc
 
--- the lemma at a place of an accepted theory is the one that its name finds
-pub lemma_found : (text : List ℕ) (before after : List Item) (t : Theory) (es : List Entry) (x : ℕ) (name : List ℕ) (body : Tree) → theory_entries text before t ≡ Ok es
+-- an accepted theory among the parts of items, with the items before and after it
+pub record IsTheoryAt (text : List ℕ) (earlier is : List Item) (theory : List ℕ) (es : List Entry) : Type 0 where
+  pub before : List Item
+  pub after : List Item
+  pub declared : Theory
+  pub split : is ≡ before ++ item.Theory declared ∷ after
+  pub name : spelling text declared.name ≡ theory
+  pub entries : theory_entries text (earlier ++ before) declared ≡ Ok es
+
+accepted_here : (text : List ℕ) (earlier is : List Item) (t : Theory) (theory : List ℕ) (es : List Entry) (r : Result (List Entry) Fault) → theory_entries text earlier t ≡ r
+    → theory_part (spelling text t.name) r ≡ Accepted theory es → IsTheoryAt text earlier (item.Theory t ∷ is) theory es
+accepted_here text earlier is t theory es (Err f) h e = cc
+accepted_here text earlier is t theory es (Ok fs) h e =
+    let names : spelling text t.name ≡ theory = cc in
+    let same : fs ≡ es = cc in
+    record { before = []; after = is; declared = t; split = refl; name = names; entries = ap (λ (xs : List Item). theory_entries text xs t) (append-nil earlier) ∙ h ∙ ap Ok same }
+
+accepted_later : (text : List ℕ) (earlier is : List Item) (i : Item) (theory : List ℕ) (es : List Entry) → IsTheoryAt text (earlier ++ i ∷ []) is theory es → IsTheoryAt text earlier (i ∷ is) theory es
+accepted_later text earlier is i theory es a = record {
+  before = i ∷ a.before;
+  after = a.after;
+  declared = a.declared;
+  split = ap (λ (xs : List Item). i ∷ xs) a.split;
+  name = a.name;
+  entries = ap (λ (xs : List Item). theory_entries text xs a.declared) (sym (append_assoc earlier (i ∷ []) a.before)) ∙ a.entries;
+}
+
+pub theory_at : (text : List ℕ) (earlier is : List Item) (theory : List ℕ) (es : List Entry) → Has (Accepted theory es) (parts_after text earlier is) → IsTheoryAt text earlier is theory es
+theory_at text earlier [] theory es h = absurd h
+theory_at text earlier (item.Theory t ∷ is) theory es (inl e) = accepted_here text earlier is t theory es (theory_entries text earlier t) refl e
+theory_at text earlier (item.Proof p ∷ is) theory es (inl e) = cc
+theory_at text earlier (i ∷ is) theory es (inr h) = accepted_later text earlier is i theory es (theory_at text (earlier ++ i ∷ []) is theory es h)
+
+-- the lemma of a theory between other items
+lemma_split : (text : List ℕ) (before after : List Item) (t : Theory) (es : List Entry) (x : ℕ) (name : List ℕ) (body : Tree) → theory_entries text before t ≡ Ok es
     → slice_get es x ≡ Some (record { name = name; kind = Formula formula_word.Lemma body })
     → lemma_in (parts_of text (before ++ item.Theory t ∷ after)) (record { theory = spelling text t.name; formula = name }) ≡ Some body
-lemma_found text before after t es x name body h e =
+lemma_split text before after t es x name body h e =
     let n : FormulaName = record { theory = spelling text t.name; formula = name } in
-    let a = told_accepted text (has_name (spelling text t.name) (theory_names text before)) t es h in
+    let a = entries_accepted text (has_name (spelling text t.name) (theory_names text before)) t es h in
     let distinct : are_distinct (entry_names es) ≡ true = ap are_distinct (names_of_entries text t.name.pos t.decls es a.entries) ∙ distinct_names text t.decls a.apart in
     let found : lemma_named es name ≡ Some body = found_by_name es x name body distinct e in
     let here : part_lemma (part_of text before (item.Theory t)) n ≡ Some body =
@@ -79,3 +113,13 @@ lemma_found text before after t es x name body h e =
     ∙ (lemma_in-append (parts_of text before) (part_of text before (item.Theory t) ∷ rest) n
     ∙ (ap (λ (o : Option Tree). or_else o (or_else (part_lemma (part_of text before (item.Theory t)) n) (lemma_in rest n))) (none_before text n [] before a.first)
     ∙ or_else-Some (part_lemma (part_of text before (item.Theory t)) n) (lemma_in rest n) body here))
+
+-- the lemma at a place of an accepted theory is the one that its name finds
+pub lemma_found : (text : List ℕ) (items : List Item) (theory : List ℕ) (es : List Entry) (x : ℕ) (name : List ℕ) (body : Tree) → Contains (parts_of text items) (Accepted theory es)
+    → slice_get es x ≡ Some (record { name = name; kind = Formula formula_word.Lemma body })
+    → lemma_in (parts_of text items) (record { theory = theory; formula = name }) ≡ Some body
+lemma_found text items theory es x name body h e =
+    let a = theory_at text [] items theory es (has_contained (parts_of text items) (Accepted theory es) h) in
+    ap (λ (is : List Item). lemma_in (parts_of text is) (record { theory = theory; formula = name })) a.split
+    ∙ ap (λ (u : List ℕ). lemma_in (parts_of text (a.before ++ item.Theory a.declared ∷ a.after)) (record { theory = u; formula = name })) (sym a.name)
+    ∙ lemma_split text a.before a.after a.declared es x name body a.entries e

@@ -28,8 +28,8 @@ pub record Entry : Type 0 where
   pub kind : EntryKind
 
 -- the fault of a form that is not built: its place is that of the name of the theory
-abbrev pub not_built : Pos → Fault
-not_built at = record { pos = at; code = code.OutOfProfile }
+abbrev pub out_of_profile : Pos → Fault
+out_of_profile at = record { pos = at; code = code.OutOfProfile }
 
 -- NOT a
 abbrev pub negation : Tree → Tree
@@ -40,7 +40,7 @@ abbrev pub connective : Pos → InfixWord → Tree → Tree → Result Tree Faul
 connective at infix_word.And a b = Ok (If a b False)
 connective at infix_word.Or a b = Ok (If a True b)
 connective at infix_word.Implies a b = Ok (If a b True)
-connective at _ a b = Err (not_built at)
+connective at _ a b = Err (out_of_profile at)
 
 abbrev pub is_constant_kind : EntryKind → Bool
 is_constant_kind Constant = true
@@ -66,7 +66,7 @@ constant at (Some n) = Ok (Const (Own n))
 
 -- the constant that a plain name stands for
 abbrev pub named_constant : List ℕ → Pos → List Entry → Option Word → Result Tree Fault
-named_constant text at es None = Err (not_built at)
+named_constant text at es None = Err (out_of_profile at)
 named_constant text at es (Some w) = constant w.pos (resolve es (spelling text w))
 
 -- Each step gives of one layer of a tree, of an expression its core tree or the first fault from the left, and of a name the word where it is
@@ -81,7 +81,7 @@ core_step text at es (Expr-F.Paren x pos) = x
 core_step text at es (Expr-F.Cond c x y pos) = c >>= λ t. x >>= λ a. y >>= λ b. Ok (If t a b)
 core_step text at es (Expr-F.Not x pos) = x >>= λ a. Ok (negation a)
 core_step text at es (Expr-F.Infix o x y) = x >>= λ a. y >>= λ b. connective at o a b
-core_step text at es _ = Err (not_built at)
+core_step text at es _ = Err (out_of_profile at)
 
 abbrev pub name_step : Step NameExpr-F (Option Word)
 name_step n = plain n.qualifier n.word
@@ -112,7 +112,7 @@ named text w kind = record { name = spelling text w; kind = kind }
 abbrev pub entry_of : List ℕ → Pos → List Entry → Decl → Result Entry Fault
 entry_of text at es (decl.ConstDecl w params ty body) = Ok (named text w Constant)
 entry_of text at es (decl.Formula w word x) = core text at es x >>= λ t. Ok (named text w (Formula word t))
-entry_of text at es _ = Err (not_built at)
+entry_of text at es _ = Err (out_of_profile at)
 
 -- the entries of declarations that follow these entries, with these in front, or the first fault
 abbrev pub entries_after : List ℕ → Pos → List Entry → List Decl → Result (List Entry) Fault

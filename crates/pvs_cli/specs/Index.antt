@@ -5,7 +5,7 @@ use Rattle.std.specs.Cmp.Lexicographic.{slice_cmp}
 use Rattle.std.specs.Ordering.{nat_cmp, ordering_then}
 use Rattle.pvs_cli.specs.declared.index.Index.{Index}
 use Rattle.pvs_cli.specs.declared.index.FormulaIndex.{FormulaIndex}
-use Rattle.pvs_cli.specs.Names.{FormulaName, is_among}
+use Rattle.pvs_cli.specs.Names.{FormulaName, is_listed}
 use Rattle.pvs_cli.specs.Theories.{has_name}
 
 -- the value of a name
@@ -26,4 +26,4 @@ HasNames i names = (name : List ℕ) → is_some (value_of i name) ≡ has_name 
 
 -- the formulas of an index are these
 abbrev pub HasFormulas : {V : Type 0} → FormulaIndex V → List FormulaName → Type 0
-HasFormulas i names = (n : FormulaName) → is_some (formula_value i n) ≡ is_among n names
+HasFormulas i names = (n : FormulaName) → is_some (formula_value i n) ≡ is_listed n names

@@ -1,6 +1,6 @@
 pub mod Names
 pub mod Forms
-pub mod Outcomes
+pub mod Fault
 pub mod Trees
 pub mod Entries
 pub mod Theories
@@ -10,6 +10,7 @@ pub mod Steps
 pub mod Replaying
 pub mod Replays
 pub mod Verdicts
+pub mod Outcomes
 pub mod Lines
 pub mod Printed
 pub mod Reporting
@@ -21,4 +22,3 @@ pub mod SoundFacts
 pub mod OpenExample
 pub mod Index
 pub mod LemmaIndex
-pub mod Going

@@ -12,8 +12,9 @@ pub record FormulaName : Type 0 where
 abbrev pub is_same : FormulaName → FormulaName → Bool
 is_same a b = bytes_eq a.theory b.theory && bytes_eq a.formula b.formula
 
-abbrev pub is_among : FormulaName → List FormulaName → Bool
-is_among n ns = list_any (is_same n) ns
+-- whether a formula is in a list
+abbrev pub is_listed : FormulaName → List FormulaName → Bool
+is_listed n ns = list_any (is_same n) ns
 
 -- the formula that a proof names
 abbrev pub named_by : List ℕ → Proof → FormulaName

@@ -1,26 +1,59 @@
--- What a call answers beside what a definition gives: the same, unless memory ran out.
-use Rattle.std.specs.Prelude.{◌≡◌, Result, Ok, Err}
+-- The parts of a unit with the outcomes of the proofs among them, and the statuses of lemmas that follow.
+use Rattle.std.specs.Prelude.{◌&&◌, ℕ, Bool, true, false, if◌then◌else◌, List, [], ◌∷◌, ◌++◌}
+use Rattle.std.specs.List.{list_any}
 use Rattle.pvs_base.specs.declared.code.Fault.{Fault}
-use Rattle.pvs_base.specs.declared.code.Code.{Code}
-use Rattle.pvs_cli.specs.declared.fault.RuleFault.{RuleFault}
-use Rattle.pvs_cli.specs.declared.fault.RuleFault.TheVariants as rule_fault
-use Rattle.pvs_cli.specs.declared.fault.ElabFault.{ElabFault}
-use Rattle.pvs_cli.specs.declared.fault.ElabFault.TheVariants as elab_fault
+use Rattle.pvs_cli.specs.Names.{FormulaName, is_same, named_by}
+use Rattle.pvs_cli.specs.Entries.{Entry}
+use Rattle.pvs_cli.specs.Theories.{Part, Accepted, Rejected, Proving}
+use Rattle.pvs_cli.specs.Replaying.{Outcome, Proved, Open, Refused}
+use Rattle.pvs_cli.specs.Verdicts.{Scripts, verdict}
 
-abbrev pub FailsRule : {Y : Type 0} → RuleFault → Result Y Code → Type 0
-FailsRule rule_fault.Memory r = Unit {0}
-FailsRule (rule_fault.Refused c) r = r ≡ Err c
+-- a part of a unit with its outcome
+pub data PartOutcome : Type 0 where
+  -- an accepted theory with its entries
+  TheoryAccepted : List ℕ → List Entry → PartOutcome
+  -- a theory that is refused with a fault
+  TheoryRefused : List ℕ → Fault → PartOutcome
+  -- a proof of the formula of this name
+  ProofOutcome : FormulaName → Outcome → PartOutcome
 
--- premises, seen by view, or the code of a refusal
-abbrev pub GivesRule : {X Y : Type 0} → (X → Y) → Result X RuleFault → Result Y Code → Type 0
-GivesRule view (Ok x) r = r ≡ Ok (view x)
-GivesRule view (Err e) r = FailsRule e r
+-- the outcome of a part, in a unit with these parts, where earlier proofs name these formulas
+abbrev pub part_outcome : Scripts → List Part → List FormulaName → Part → PartOutcome
+part_outcome scripts parts earlier (Accepted theory es) = TheoryAccepted theory es
+part_outcome scripts parts earlier (Rejected theory f) = TheoryRefused theory f
+part_outcome scripts parts earlier (Proving text p) = ProofOutcome (named_by text p) (verdict scripts parts earlier text p)
 
-abbrev pub FailsElab : {Y : Type 0} → ElabFault → Result Y Fault → Type 0
-FailsElab elab_fault.Memory r = Unit {0}
-FailsElab (elab_fault.At f) r = r ≡ Err f
+-- the formula that a part names where it is a proof
+abbrev pub names_in : Part → List FormulaName
+names_in (Accepted theory es) = []
+names_in (Rejected theory f) = []
+names_in (Proving text p) = named_by text p ∷ []
 
--- a tree or entries, seen by view, or the first fault
-abbrev pub GivesElab : {X Y : Type 0} → (X → Y) → Result X ElabFault → Result Y Fault → Type 0
-GivesElab view (Ok x) r = r ≡ Ok (view x)
-GivesElab view (Err e) r = FailsElab e r
+-- the outcomes of the last parts of a unit, where the proofs before them name these formulas
+abbrev pub outcomes_after : Scripts → List Part → List FormulaName → List Part → List PartOutcome
+outcomes_after scripts parts earlier [] = []
+outcomes_after scripts parts earlier (p ∷ ps) = part_outcome scripts parts earlier p ∷ outcomes_after scripts parts (earlier ++ names_in p) ps
+
+-- the outcomes of the parts of a unit, in order
+abbrev pub outcomes_of : Scripts → List Part → List PartOutcome
+outcomes_of scripts parts = outcomes_after scripts parts [] parts
+
+-- whether a proof comes to its end
+abbrev pub is_proved : Outcome → Bool
+is_proved Proved = true
+is_proved (Open s) = false
+is_proved (Refused f) = false
+
+-- whether an outcome is that of a proof that proves this formula
+abbrev pub proves : FormulaName → PartOutcome → Bool
+proves n (TheoryAccepted theory es) = false
+proves n (TheoryRefused theory f) = false
+proves n (ProofOutcome m o) = is_same n m && is_proved o
+
+pub data LemmaStatus : Type 0 where
+  Unproved : LemmaStatus
+  Complete : LemmaStatus
+
+-- the status of each lemma of a unit whose parts have these outcomes
+abbrev pub statuses_of : List PartOutcome → FormulaName → LemmaStatus
+statuses_of os n = if list_any (proves n) os then Complete else Unproved

@@ -1,66 +1,65 @@
 -- The report of a text.
-use Rattle.std.specs.Prelude.{◌≡◌, ℕ, codes, List, [], ◌∷◌, ◌++◌, Result, Ok, Err}
+use Rattle.std.specs.Prelude.{◌≡◌, ℕ, codes, flat_map, List, [], ◌∷◌, ◌++◌, Result, Ok, Err}
 use Rattle.pvs_base.specs.declared.code.Fault.{Fault}
-use Rattle.pvs_syntax.specs.declared.unit.Proof.{Proof}
 use Rattle.pvs_syntax.specs.declared.unit.Item.{Item}
 use Rattle.pvs_syntax.specs.declared.unit.Unit as unit
 use Rattle.pvs_syntax.specs.declared.unit.FormulaWord.TheVariants as formula_word
 use Rattle.pvs_parser.specs.Text.{IsAnswer}
 use Rattle.pvs_cli.specs.Names.{FormulaName}
-use Rattle.pvs_syntax.specs.Words.{spelling}
 use Rattle.pvs_cli.specs.Entries.{Entry, EntryKind, Formula}
-use Rattle.pvs_cli.specs.Theories.{Part, Accepted, Rejected, Proving, parts_of}
+use Rattle.pvs_cli.specs.Theories.{parts_of}
 use Rattle.pvs_cli.specs.Replaying.{Outcome, Proved, Open, Refused}
-use Rattle.pvs_cli.specs.Verdicts.{Status, Unproved, Complete, along, proved, status_of, verdict}
+use Rattle.pvs_cli.specs.Verdicts.{AreScripts, Scripts}
+use Rattle.pvs_cli.specs.Outcomes.{PartOutcome, TheoryAccepted, TheoryRefused, ProofOutcome, LemmaStatus, Unproved, Complete, outcomes_of, statuses_of}
 use Rattle.pvs_cli.specs.Lines.{Line, TheoryLine, RefusedLine, FormulaLine, TotalLine, LineWord, AxiomWord, CompleteWord, OpenWord, UnitOf, TheoryOf, ProofOf, full_name, totals_of}
 
-abbrev pub status_word : Status → LineWord
+-- the word for the status of a lemma
+abbrev pub status_word : LemmaStatus → LineWord
 status_word Unproved = OpenWord
 status_word Complete = CompleteWord
 
--- the word for a lemma, where these are proved
-abbrev pub lemma_word : List FormulaName → List ℕ → List ℕ → LineWord
-lemma_word names theory name = status_word (status_of names (record { theory = theory; formula = name }))
-
--- the lines of an entry of a theory, where these formulas are proved: one for an axiom or a lemma
-abbrev pub entry_lines : List ℕ → List FormulaName → List ℕ → EntryKind → List Line
-entry_lines theory names name (Formula formula_word.Axiom t) = FormulaLine theory name AxiomWord ∷ []
-entry_lines theory names name (Formula formula_word.Lemma t) = FormulaLine theory name (lemma_word names theory name) ∷ []
-entry_lines theory names name _ = []
+-- the lines of an entry of a theory, where lemmas have these statuses: one for an axiom or a lemma
+abbrev pub entry_lines : (FormulaName → LemmaStatus) → List ℕ → List ℕ → EntryKind → List Line
+entry_lines status theory name (Formula formula_word.Axiom t) = FormulaLine theory name AxiomWord ∷ []
+entry_lines status theory name (Formula formula_word.Lemma t) = FormulaLine theory name (status_word (status (record { theory = theory; formula = name }))) ∷ []
+entry_lines status theory name _ = []
 
 -- the lines of the formulas of a theory, in order
-abbrev pub formula_lines : List ℕ → List FormulaName → List Entry → List Line
-formula_lines theory names [] = []
-formula_lines theory names (e ∷ es) = entry_lines theory names e.name e.kind ++ formula_lines theory names es
+abbrev pub formula_lines : (FormulaName → LemmaStatus) → List ℕ → List Entry → List Line
+formula_lines status theory es = flat_map (λ e. entry_lines status theory e.name e.kind) es
 
 -- the line of a proof: one where it is refused
-abbrev pub proof_line : List ℕ → Proof → Outcome → List Line
-proof_line text p Proved = []
-proof_line text p (Open s) = []
-proof_line text p (Refused f) = RefusedLine ProofOf (full_name (spelling text p.theory) (spelling text p.formula)) f ∷ []
+abbrev pub proof_line : FormulaName → Outcome → List Line
+proof_line n Proved = []
+proof_line n (Open s) = []
+proof_line n (Refused f) = RefusedLine ProofOf (full_name n.theory n.formula) f ∷ []
 
--- the lines of a part of a unit, where these formulas are proved, and earlier proofs name those
-abbrev pub part_lines : List ℕ → List Part → List FormulaName → List FormulaName → Part → List Line
-part_lines text parts names earlier (Accepted theory es) = TheoryLine theory ∷ formula_lines theory names es
-part_lines text parts names earlier (Rejected theory f) = RefusedLine TheoryOf theory f ∷ []
-part_lines text parts names earlier (Proving p) = proof_line text p (verdict text parts earlier p)
+-- the lines of a part of a unit with its outcome, where lemmas have these statuses
+abbrev pub part_lines : (FormulaName → LemmaStatus) → PartOutcome → List Line
+part_lines status (TheoryAccepted theory es) = TheoryLine theory ∷ formula_lines status theory es
+part_lines status (TheoryRefused theory f) = RefusedLine TheoryOf theory f ∷ []
+part_lines status (ProofOutcome n o) = proof_line n o
 
--- the lines of the parts of a unit
-abbrev pub parts_lines : List ℕ → List Part → List Line
-parts_lines text parts = along text (part_lines text parts (proved text parts)) [] parts
+-- the lines of the parts of a unit with their outcomes, where lemmas have these statuses
+abbrev pub lines_of : List PartOutcome → (FormulaName → LemmaStatus) → List Line
+lines_of os status = flat_map (part_lines status) os
 
--- the lines of a unit
-abbrev pub unit_lines : List ℕ → List Item → List Line
-unit_lines text items = parts_lines text (parts_of text items)
+-- the lines of the parts of a unit with their outcomes: each lemma has the status that follows from all of them
+abbrev pub outcome_lines : List PartOutcome → List Line
+outcome_lines os = lines_of os (statuses_of os)
 
--- the line of a refused unit: its name is u
-abbrev pub refused_unit : Fault → List Line
-refused_unit f = RefusedLine UnitOf (codes "u") f ∷ []
+-- the lines of a unit of a text
+abbrev pub unit_lines : Scripts → List ℕ → List Item → List Line
+unit_lines scripts text items = outcome_lines (outcomes_of scripts (parts_of text items))
+
+-- the line of a unit that is refused: its name is u
+abbrev pub unit_refusal : Fault → List Line
+unit_refusal f = RefusedLine UnitOf (codes "u") f ∷ []
 
 -- the lines of what a text reads as: a unit, or a first fault
-abbrev pub answer_lines : List ℕ → Result unit.Unit Fault → List Line
-answer_lines text (Ok u) = unit_lines text u.items
-answer_lines text (Err f) = refused_unit f
+abbrev pub answer_lines : Scripts → List ℕ → Result unit.Unit Fault → List Line
+answer_lines scripts text (Ok u) = unit_lines scripts text u.items
+answer_lines scripts text (Err f) = unit_refusal f
 
 -- the lines of a report up to the last, and the last
 abbrev pub with_total : List Line → List Line
@@ -68,7 +67,7 @@ with_total ls = ls ++ TotalLine (totals_of ls) ∷ []
 
 -- the report of a text, which is unit u
 pub data IsReport (text : List ℕ) : List Line → Type 0 where
-  of_text : (a : Result unit.Unit Fault) → IsAnswer text a → IsReport text (with_total (answer_lines text a))
+  of_text : (scripts : Scripts) → AreScripts scripts → (a : Result unit.Unit Fault) → IsAnswer text a → IsReport text (with_total (answer_lines scripts text a))
 
 -- two answers of one text are the same: its unit, or its first fault
 abbrev pub OneAnswer : Type 0

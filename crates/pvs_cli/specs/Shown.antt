@@ -23,7 +23,7 @@ entries_shown text es = map (entry_shown text) es
 abbrev pub part_shown : List ℕ → program_part.Part → Part
 part_shown text (part.Accepted theory es) = Accepted (spelling text theory) (entries_shown text es.items)
 part_shown text (part.Rejected theory f) = Rejected (spelling text theory) f
-part_shown text (part.Proving p) = Proving p.now
+part_shown text (part.Proving p) = Proving text p.now
 
 abbrev pub parts_shown : List ℕ → List program_part.Part → List Part
 parts_shown text ps = map (part_shown text) ps

@@ -1,16 +1,12 @@
 -- What is printed complete is true.
-use Rattle.std.specs.Prelude.{◌≡◌, ◌≤◌, ◌<◌, ◌+◌, ◌^◌, ℕ, true, List, ◌∷◌, ◌++◌, length, slice_get, Contains, Option, None, Some, Ok, ⊤}
-use Rattle.pvs_syntax.specs.declared.unit.Theory.{Theory}
-use Rattle.pvs_syntax.specs.declared.unit.Item.{Item}
-use Rattle.pvs_syntax.specs.declared.unit.Item.TheVariants as item
+use Rattle.std.specs.Prelude.{◌≡◌, ◌≤◌, ◌<◌, ◌+◌, ◌^◌, ℕ, true, List, ◌++◌, length, slice_get, Contains, Option, None, Some, Ok, ⊤}
 use Rattle.pvs_syntax.specs.declared.unit.Unit as unit
 use Rattle.pvs_syntax.specs.declared.unit.FormulaWord.TheVariants as formula_word
 use Rattle.pvs_parser.specs.Text.{IsAnswer}
 use Rattle.pvs_terms.specs.Tree.{Tree}
 use Rattle.pvs_sem.specs.Truth.{Interpretation, truth}
-use Rattle.pvs_syntax.specs.Words.{spelling}
 use Rattle.pvs_cli.specs.Entries.{Entry, Formula}
-use Rattle.pvs_cli.specs.Theories.{theory_entries}
+use Rattle.pvs_cli.specs.Theories.{Accepted, parts_of}
 use Rattle.pvs_cli.specs.Lines.{Line, FormulaLine, CompleteWord, bytes_of}
 use Rattle.pvs_cli.specs.Output.{text_of}
 use Rattle.pvs_cli.specs.Reporting.{IsReport}
@@ -19,12 +15,12 @@ use Rattle.pvs_cli.specs.Reporting.{IsReport}
 abbrev pub Fits : Interpretation → List Entry → ℕ → Type 0
 Fits m es x = (i : ℕ) (name : List ℕ) (t : Tree) → i < x → slice_get es i ≡ Some (record { name = name; kind = Formula formula_word.Axiom t }) → truth m t ≡ true
 
--- Each lemma of an accepted theory of the text that these lines print as complete is TRUE in every interpretation that fits the theory there.
+-- Each lemma of an accepted theory of the unit that these lines print as complete is TRUE in every interpretation that fits the theory there.
 abbrev pub IsSound : List ℕ → List Line → Type 0
-IsSound text lines = (u : unit.Unit) (before after : List Item) (t : Theory) (es : List Entry) (x : ℕ) (name : List ℕ) (body : Tree) (m : Interpretation)
-    → IsAnswer text (Ok u) → u.items ≡ before ++ item.Theory t ∷ after → theory_entries text before t ≡ Ok es
+IsSound text lines = (u : unit.Unit) (theory : List ℕ) (es : List Entry) (x : ℕ) (name : List ℕ) (body : Tree) (m : Interpretation)
+    → IsAnswer text (Ok u) → Contains (parts_of text u.items) (Accepted theory es)
     → slice_get es x ≡ Some (record { name = name; kind = Formula formula_word.Lemma body })
-    → Contains lines (FormulaLine (spelling text t.name) name CompleteWord)
+    → Contains lines (FormulaLine theory name CompleteWord)
     → Fits m es x → truth m body ≡ true
 
 -- where the output is exposed: the lines of the report of a text were added, and what they print as complete is true

@@ -15,7 +15,7 @@ use Rattle.pvs_cli.specs.declared.distinct.Declared.{Declared}
 use Rattle.pvs_cli.specs.declared.distinct.Declared.TheVariants as declared
 use Rattle.pvs_syntax.specs.Words.{spelling}
 use Rattle.pvs_cli.specs.Forms.{is_built_theory}
-use Rattle.pvs_cli.specs.Entries.{Entry, entries_of, not_built}
+use Rattle.pvs_cli.specs.Entries.{Entry, entries_of, out_of_profile}
 
 abbrev pub has_name : List ℕ → List (List ℕ) → Bool
 has_name name names = list_any (bytes_eq name) names
@@ -52,7 +52,7 @@ repeated text earlier (declared.Constant w) = repeated_in text (constant_names t
 repeated text earlier (declared.Formula w) = repeated_in text (formula_names text earlier) w
 repeated text earlier declared.Other = None
 
--- the first such word among declarations that stand behind earlier ones
+-- the first such word among declarations that follow earlier ones
 abbrev pub first_repeated : List ℕ → List Decl → List Decl → Option Word
 first_repeated text earlier [] = None
 first_repeated text earlier (d ∷ ds) = option_or (repeated text earlier (declared_by d)) (first_repeated text (earlier ++ d ∷ []) ds)
@@ -62,15 +62,15 @@ abbrev pub duplicate : Word → Fault
 duplicate w = record { pos = w.pos; code = code.Duplicate }
 
 -- the entries of a theory where no name is repeated in it
-abbrev pub once : Option Word → Result (List Entry) Fault → Result (List Entry) Fault
-once None r = r
-once (Some w) r = Err (duplicate w)
+abbrev pub unless_repeated : Option Word → Result (List Entry) Fault → Result (List Entry) Fault
+unless_repeated None r = r
+unless_repeated (Some w) r = Err (duplicate w)
 
--- the entries of a theory, or its first fault, where it is told whether an earlier theory has its name
-abbrev pub told_entries : List ℕ → Bool → Theory → Result (List Entry) Fault
-told_entries text again t =
-    if not (is_built_theory text t) then Err (not_built t.name.pos)
-    else (if again then Err (duplicate t.name) else once (first_repeated text [] t.decls) (entries_of text t.name.pos t.decls))
+-- the entries of a theory, or its first fault, given whether an earlier theory has its name
+abbrev pub accepted_entries : List ℕ → Bool → Theory → Result (List Entry) Fault
+accepted_entries text again t =
+    if not (is_built_theory text t) then Err (out_of_profile t.name.pos)
+    else (if again then Err (duplicate t.name) else unless_repeated (first_repeated text [] t.decls) (entries_of text t.name.pos t.decls))
 
 abbrev pub theory_name : List ℕ → Item → List (List ℕ)
 theory_name text (item.Theory t) = spelling text t.name ∷ []
@@ -80,24 +80,27 @@ theory_name text (item.Proof p) = []
 abbrev pub theory_names : List ℕ → List Item → List (List ℕ)
 theory_names text items = flat_map (theory_name text) items
 
--- the entries of a theory that stands behind earlier items of its unit, or its first fault
+-- the entries of a theory that follows earlier items of its unit, or its first fault
 abbrev pub theory_entries : List ℕ → List Item → Theory → Result (List Entry) Fault
-theory_entries text earlier t = told_entries text (has_name (spelling text t.name) (theory_names text earlier)) t
+theory_entries text earlier t = accepted_entries text (has_name (spelling text t.name) (theory_names text earlier)) t
 
--- an item of a unit, with what becomes of it where it is a theory
+-- a part of a unit
 pub data Part : Type 0 where
+  -- an accepted theory of this name, with its entries
   Accepted : List ℕ → List Entry → Part
+  -- a theory of this name, with its first fault
   Rejected : List ℕ → Fault → Part
-  Proving : Proof → Part
+  -- a proof, with the text that its span lies in
+  Proving : List ℕ → Proof → Part
 
 abbrev pub theory_part : List ℕ → Result (List Entry) Fault → Part
 theory_part name (Ok es) = Accepted name es
 theory_part name (Err f) = Rejected name f
 
--- the part that an item is behind earlier ones
+-- the part that an item is after earlier ones
 abbrev pub part_of : List ℕ → List Item → Item → Part
 part_of text earlier (item.Theory t) = theory_part (spelling text t.name) (theory_entries text earlier t)
-part_of text earlier (item.Proof p) = Proving p
+part_of text earlier (item.Proof p) = Proving text p
 
 abbrev pub parts_after : List ℕ → List Item → List Item → List Part
 parts_after text earlier [] = []

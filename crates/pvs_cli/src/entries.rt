@@ -4,8 +4,8 @@ ghost use Rattle.std.specs.Prelude.{◌≡◌, ℕ, List, [], ◌∷◌, ◌++�
 ghost use Rattle.std.specs.Option.{option_or};
 ghost use Rattle.pvs_terms.specs.Tree.{If};
 ghost use Rattle.pvs_cli.specs.Trees.{tree_of};
-ghost use Rattle.pvs_cli.specs.Outcomes.{GivesElab};
-ghost use Rattle.pvs_cli.specs.Entries.{connective, core, entries_of, entry_of, is_constant, is_constant_kind, named_constant, not_built, resolve};
+ghost use Rattle.pvs_cli.specs.Fault.{GivesElab};
+ghost use Rattle.pvs_cli.specs.Entries.{connective, core, entries_of, entry_of, is_constant, is_constant_kind, named_constant, out_of_profile, resolve};
 ghost use Rattle.pvs_cli.specs.Index.{Indexes, value_of};
 ghost use Rattle.pvs_cli.specs.Shown.{entries_shown, entry_shown, kind_shown};
 
@@ -101,8 +101,8 @@ fn add_entry<'a>(
 }
 
 /// The fault of a form that is not built, in a theory whose name has this place.
-pub fn not_built(at: Pos) -> Fault
-    ensures { result ≡ not_built at }
+pub fn out_of_profile(at: Pos) -> Fault
+    ensures { result ≡ out_of_profile at }
 {
     Fault {
         pos: at,
@@ -129,7 +129,7 @@ fn connective(alloc: Global, at: Pos, word: InfixWord, a: Tree, b: Tree) -> Resu
         InfixWord::And => Ok(conditional(alloc, a, b, Tree::False)?),
         InfixWord::Or => Ok(conditional(alloc, a, Tree::True, b)?),
         InfixWord::Implies => Ok(conditional(alloc, a, b, Tree::True)?),
-        _ => Err(ElabFault::At(not_built(at))),
+        _ => Err(ElabFault::At(out_of_profile(at))),
     }
 }
 
@@ -163,7 +163,7 @@ fn core(alloc: Global, scope: &Scope<'_>, expr: &Expr) -> Result<Tree, ElabFault
             let b = core(alloc, scope, right.get())?;
             connective(alloc, scope.at, *word, a, b)
         }
-        _ => Err(ElabFault::At(not_built(scope.at))),
+        _ => Err(ElabFault::At(out_of_profile(scope.at))),
     }
 }
 
@@ -172,7 +172,7 @@ fn constant(scope: &Scope<'_>, word: Option<Word>) -> Result<Tree, ElabFault>
     ensures { GivesElab tree_of result (named_constant scope.now.text.now scope.now.at (entries_shown scope.now.text.now scope.now.entries.items) word) }
 {
     let Some(word) = word else {
-        return Err(ElabFault::At(not_built(scope.at)));
+        return Err(ElabFault::At(out_of_profile(scope.at)));
     };
     match scope.constants.find(spelling_of(scope.text, &word)) {
         Some(number) => Ok(Tree::Constant(number)),
@@ -199,7 +199,7 @@ fn make_entry(alloc: Global, scope: &Scope<'_>, decl: &Decl) -> Result<Entry, El
                 kind: EntryKind::Formula(*word, tree),
             })
         }
-        _ => Err(ElabFault::At(not_built(scope.at))),
+        _ => Err(ElabFault::At(out_of_profile(scope.at))),
     }
 }
 

@@ -3,7 +3,7 @@
 ghost use Rattle.std.specs.Prelude.{◌≡◌, ℕ, List, [], ◌∷◌, ◌++◌, Some, None, bytes_eq, not, is_some, if◌then◌else◌, IfOk, OnOk};
 ghost use Rattle.std.specs.Option.{option_or};
 ghost use Rattle.pvs_cli.specs.Index.{HasFormulas, HasNames, formula_value, value_of};
-ghost use Rattle.pvs_cli.specs.Names.{FormulaName, is_among, is_same};
+ghost use Rattle.pvs_cli.specs.Names.{FormulaName, is_same};
 ghost use Rattle.pvs_cli.specs.Theories.{has_name};
 
 use std::alloc::{AllocError, Global};

@@ -11,6 +11,7 @@ mod index;
 mod input;
 mod lines;
 mod names;
+mod outcomes;
 mod output;
 mod replay;
 mod report;

@@ -1,6 +1,6 @@
 //! Sequents of borrowed terms.
 
-ghost use Rattle.std.specs.Prelude.{◌≡◌, ◌<◌, length, map, remove, IfOk, IsSome, OnOk};
+ghost use Rattle.std.specs.Prelude.{◌≡◌, ◌<◌, length, remove, IfOk, IsSome, OnOk};
 ghost use Rattle.std.specs.List.{list_any};
 ghost use Rattle.std.specs.Option.{option_map};
 ghost use Rattle.pvs_terms.specs.Tree.{True, False};

@@ -3,7 +3,7 @@
 ghost use Rattle.std.specs.Prelude.{◌≡◌, ◌<◌, ◌++◌, [], ◌∷◌, IsSome, IfOk, OnOk};
 ghost use Rattle.pvs_cli.specs.Trees.{tree_of};
 ghost use Rattle.pvs_cli.specs.Sequents.{sequent_of, sequents_of};
-ghost use Rattle.pvs_cli.specs.Outcomes.{GivesRule};
+ghost use Rattle.pvs_cli.specs.Fault.{GivesRule};
 ghost use Rattle.pvs_cli.specs.Steps.{else_premise, formula_at, if_step, step, still_open, then_premise, without};
 
 use crate::fault::RuleFault;

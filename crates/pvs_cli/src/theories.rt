@@ -4,12 +4,12 @@ ghost use Rattle.std.specs.Prelude.{◌≡◌, ℕ, List, ◌++◌, IfOk, OnOk};
 ghost use Rattle.pvs_syntax.specs.declared.unit.Item as spec_item;
 ghost use Rattle.pvs_cli.specs.Index.{HasNames};
 ghost use Rattle.pvs_syntax.specs.Words.{spelling};
-ghost use Rattle.pvs_cli.specs.Outcomes.{GivesElab};
+ghost use Rattle.pvs_cli.specs.Fault.{GivesElab};
 ghost use Rattle.pvs_cli.specs.Shown.{entries_shown, part_shown, parts_shown};
-ghost use Rattle.pvs_cli.specs.Theories.{duplicate, part_of, parts_of, theory_name, theory_names, theory_part, told_entries};
+ghost use Rattle.pvs_cli.specs.Theories.{duplicate, part_of, parts_of, theory_name, theory_names, theory_part, accepted_entries};
 
 use crate::distinct::first_repeated;
-use crate::entries::{Entry, entries, not_built};
+use crate::entries::{Entry, entries, out_of_profile};
 use crate::fault::ElabFault;
 use crate::forms::is_built_theory;
 use crate::index::{Index, add_name};
@@ -18,7 +18,7 @@ use pvs_base::{Code, Fault};
 use pvs_syntax::{Item, Proof, Theory, Word};
 use std::alloc::{AllocError, Global};
 
-/// An item of a unit, with what becomes of it where it is a theory.
+/// A part of a unit.
 #[derive(Drop)]
 pub enum Part<'u> {
     /// A theory, by its name, with its entries.
@@ -26,6 +26,8 @@ pub enum Part<'u> {
 
     /// A theory with its first fault.
     Rejected(Word, Fault),
+
+    /// A proof.
     Proving(&'u Proof),
 }
 
@@ -39,22 +41,21 @@ fn duplicate(word: Word) -> Fault
     }
 }
 
-/// The entries of a theory, or its first fault, where it is told whether an earlier theory has its
-/// name.
+/// The entries of a theory, or its first fault, given whether an earlier theory has its name.
 ///
 /// These are the faults, in their order: OutOfProfile at the theory's name, where a form is not
 /// built; Duplicate there, where an earlier theory has the name; Duplicate at a name that is
 /// declared again; Unknown at a name that no earlier constant has.
-fn told_entries(
+fn accepted_entries(
     alloc: Global,
     text: &[u8],
     again: bool,
     theory: &Theory,
 ) -> Result<Vec<Entry>, ElabFault>
-    ensures { GivesElab (λ v. entries_shown text.now v.items) result (told_entries text.now again theory.now) }
+    ensures { GivesElab (λ v. entries_shown text.now v.items) result (accepted_entries text.now again theory.now) }
 {
     if !is_built_theory(text, theory) {
-        return Err(ElabFault::At(not_built(theory.name.pos)));
+        return Err(ElabFault::At(out_of_profile(theory.name.pos)));
     }
     if again {
         return Err(ElabFault::At(duplicate(theory.name)));
@@ -66,16 +67,16 @@ fn told_entries(
     }
 }
 
-/// The part that a theory is, where it is told whether an earlier one has its name.
+/// The part that a theory is, given whether an earlier one has its name.
 fn theory_part<'u>(
     alloc: Global,
     text: &[u8],
     again: bool,
     theory: &Theory,
 ) -> Result<Part<'u>, AllocError>
-    ensures { IfOk result (λ p. part_shown text.now p ≡ theory_part (spelling text.now theory.now.name) (told_entries text.now again theory.now)) }
+    ensures { IfOk result (λ p. part_shown text.now p ≡ theory_part (spelling text.now theory.now.name) (accepted_entries text.now again theory.now)) }
 {
-    match told_entries(alloc, text, again, theory) {
+    match accepted_entries(alloc, text, again, theory) {
         Ok(entries) => Ok(Part::Accepted(theory.name, entries)),
         Err(ElabFault::At(fault)) => Ok(Part::Rejected(theory.name, fault)),
         Err(ElabFault::Memory) => Err(AllocError),

@@ -1,4 +1,4 @@
-//! What becomes of proofs.
+//! The verdicts of proofs.
 
 ghost use Rattle.std.specs.Prelude.{◌≡◌, ◌≤◌, ◌^◌, List, [], ◌∷◌, length, IfOk, OnOk};
 ghost use Rattle.std.specs.Option.{option_map};
@@ -8,12 +8,12 @@ ghost use Rattle.pvs_script.specs.Reading.{script_of};
 ghost use Rattle.pvs_cli.specs.Trees.{tree_of};
 ghost use Rattle.pvs_cli.specs.Sequents.{sequent_of};
 ghost use Rattle.pvs_cli.specs.Index.{HasFormulas};
-ghost use Rattle.pvs_cli.specs.LemmaIndex.{HasLemmas, tree_at};
+ghost use Rattle.pvs_cli.specs.LemmaIndex.{HasLemmas, lemma_tree};
 ghost use Rattle.pvs_cli.specs.Names.{FormulaName};
 ghost use Rattle.pvs_cli.specs.Shown.{entries_shown, entry_shown, kind_shown, part_shown, parts_shown};
 ghost use Rattle.pvs_cli.specs.Replays.{outcome_of};
 ghost use Rattle.pvs_cli.specs.Theories as spec;
-ghost use Rattle.pvs_cli.specs.Verdicts.{goal, lemma_formula, or_else, part_lemma, replayed, theory_lemma, verdict};
+ghost use Rattle.pvs_cli.specs.Verdicts.{goal, lemma_formula, or_else, part_lemma, script_outcome, theory_lemma, verdict};
 
 use crate::entries::{Entry, EntryKind};
 use crate::index::FormulaIndex;
@@ -44,7 +44,7 @@ fn add_lemma<'e, 'a>(
     theory: &'a [u8],
     entry: &'e Entry,
 ) -> Result<(), AllocError>
-    ensures { OnOk result ((n : FormulaName) → tree_at formulas.new n ≡ or_else (tree_at formulas.old n) (theory_lemma theory.now (entry_shown text.now entry.now ∷ []) n)) }
+    ensures { OnOk result ((n : FormulaName) → lemma_tree formulas.new n ≡ or_else (lemma_tree formulas.old n) (theory_lemma theory.now (entry_shown text.now entry.now ∷ []) n)) }
 {
     match lemma_formula(&entry.kind) {
         None => Ok(()),
@@ -59,7 +59,7 @@ fn add_lemmas<'e, 'a>(
     theory: &'a [u8],
     entries: &'e [Entry],
 ) -> Result<(), AllocError>
-    ensures { OnOk result ((n : FormulaName) → tree_at formulas.new n ≡ or_else (tree_at formulas.old n) (theory_lemma theory.now (entries_shown text.now entries.now) n)) }
+    ensures { OnOk result ((n : FormulaName) → lemma_tree formulas.new n ≡ or_else (lemma_tree formulas.old n) (theory_lemma theory.now (entries_shown text.now entries.now) n)) }
 {
     for entry in entries {
         add_lemma(formulas, text, theory, entry)?;
@@ -73,7 +73,7 @@ fn add_part<'e, 'a>(
     text: &'a [u8],
     part: &'e Part<'_>,
 ) -> Result<(), AllocError>
-    ensures { OnOk result ((n : FormulaName) → tree_at formulas.new n ≡ or_else (tree_at formulas.old n) (part_lemma (part_shown text.now part.now) n)) }
+    ensures { OnOk result ((n : FormulaName) → lemma_tree formulas.new n ≡ or_else (lemma_tree formulas.old n) (part_lemma (part_shown text.now part.now) n)) }
 {
     match part {
         Part::Accepted(theory, entries) => {
@@ -110,9 +110,9 @@ fn goal<'a>(alloc: Global, tree: &'a Tree) -> Result<Sequent<'a>, AllocError>
     })
 }
 
-/// What the script of a proof comes to on a formula: the fault is the first of the script, or else
+/// The outcome of the script of a proof on a formula. The fault is the first of the script, or else
 /// that of the first step that is refused.
-fn replayed<'e>(
+fn script_outcome<'e>(
     alloc: Global,
     text: &[u8],
     proof: &Proof,
@@ -120,7 +120,7 @@ fn replayed<'e>(
 ) -> Result<Outcome<'e>, AllocError>
     requires short { length text.now ≤ 2 ^ 20 }
     requires span { SpanIn text.now (item.Proof proof.now) }
-    ensures { IfOk result (λ o. outcome_of o ≡ replayed (goal (tree_of tree.now)) (script_of text.now proof.now)) }
+    ensures { IfOk result (λ o. outcome_of o ≡ script_outcome (goal (tree_of tree.now)) (script_of text.now proof.now)) }
 {
     match read_script(alloc, text, proof) {
         Ok(script) => {
@@ -132,7 +132,7 @@ fn replayed<'e>(
     }
 }
 
-/// What becomes of a proof of a unit with these lemmas, where earlier proofs name these formulas.
+/// The outcome of a proof of a unit with these lemmas, where earlier proofs name these formulas.
 ///
 /// The fault NoSuchFormula comes where there is no such lemma, or an earlier proof names it.
 pub fn verdict<'e, 'a>(
@@ -144,7 +144,7 @@ pub fn verdict<'e, 'a>(
 ) -> Result<Outcome<'e>, AllocError>
     requires short { length text.now ≤ 2 ^ 20 }
     requires span { SpanIn text.now (item.Proof proof.now) }
-    ensures { (parts : List spec.Part) (earlier : List FormulaName) → HasLemmas lemmas.now parts → HasFormulas named.now earlier → IfOk result (λ o. outcome_of o ≡ verdict text.now parts earlier proof.now) }
+    ensures { (parts : List spec.Part) (earlier : List FormulaName) → HasLemmas lemmas.now parts → HasFormulas named.now earlier → IfOk result (λ o. outcome_of o ≡ verdict script_of parts earlier text.now proof.now) }
 {
     let no_such_formula = Outcome::Refused(Fault {
         pos: proof.theory.pos,
@@ -158,5 +158,5 @@ pub fn verdict<'e, 'a>(
     if named.find(theory, formula).is_some() {
         return Ok(no_such_formula);
     }
-    replayed(alloc, text, proof, tree)
+    script_outcome(alloc, text, proof, tree)
 }

@@ -8,11 +8,11 @@ use Rattle.std.proofs.lemmas.Slice.Eq.{bytes_eq-Decides}
 use Rattle.std.proofs.lemmas.List.Sums.{prefix_len-le-length}
 use Rattle.pvs_lexer.specs.declared.token.TokenKind.{TokenKind}
 use Rattle.pvs_lexer.specs.declared.token.TokenKind.TheVariants.{Word, Bang, Number, Quoted, Symbol}
-use Rattle.pvs_lexer.specs.Tokens.{is_word_byte, is_word, is_bang, is_number, is_quote, is_quoted, is_symbol, grammar_one_byte, outside_one_byte, grammar_two_bytes, outside_two_bytes, kind_of, Found, found_or, longest_within, longest}
+use Rattle.pvs_lexer.specs.Tokens.{is_word_byte, is_word, is_bang, is_number, is_quote, is_quoted, is_symbol, grammar_one_byte, outside_one_byte, grammar_two_bytes, outside_two_bytes, kind_of, Match, match_or, longest_within, longest}
 use Rattle.pvs_lexer.specs.Scan.{is_other, begins_variable, symbol_size}
 
 -- a token at the front of a text, of at most n bytes
-pub record IsFront (text : List ℕ) (n : ℕ) (found : Found) : Type 0 where
+pub record IsFront (text : List ℕ) (n : ℕ) (found : Match) : Type 0 where
   pub some : 1 ≤ found.1
   pub within : found.1 ≤ n
   pub kind : kind_of (take found.1 text) ≡ Some found.0
@@ -23,7 +23,7 @@ within_above : (text : List ℕ) (n j k : ℕ) → k ≡ j + n → ((m : ℕ) �
 within_above text n zero k e none = ap (λ i. longest_within i text) (omega arith)
 within_above text n (suc j) zero e none = absurd (omega arith)
 within_above text n (suc j) (suc k) e none =
-    ap (λ o. found_or o (suc k) (longest_within k text)) (none (suc k) (omega arith) (omega arith))
+    ap (λ o. match_or o (suc k) (longest_within k text)) (none (suc k) (omega arith) (omega arith))
     ∙ within_above text n j k (omega arith) (λ m lo hi. none m lo (omega arith))
 
 pub longest_is : (text : List ℕ) (n : ℕ) (kind : TokenKind) → suc n ≤ length text → kind_of (take (suc n) text) ≡ Some kind
@@ -31,7 +31,7 @@ pub longest_is : (text : List ℕ) (n : ℕ) (kind : TokenKind) → suc n ≤ le
 unfolding longest
 longest_is text n kind h is none =
     within_above text (suc n) (length text - suc n) (length text) (omega arith) none
-    ∙ ap (λ o. found_or o (suc n) (longest_within n text)) is
+    ∙ ap (λ o. match_or o (suc n) (longest_within n text)) is
 
 pub longest_none : (text : List ℕ) → ((m : ℕ) → 0 < m → m ≤ length text → kind_of (take m text) ≡ None) → longest text ≡ None
 unfolding longest
@@ -313,14 +313,14 @@ kind_other b xs h =
     let quote : is_quote b ≡ false = not_flips _ (right_true (not (is_ascii_alphabetic b) && not (is_ascii_digit b)) (not (is_quote b)) h) in
     kind_by (b ∷ xs) false false false false (is_symbol (b ∷ xs)) (left_false _ _ letter) (no_bang b xs letter) (left_false _ _ digit) (left_false _ _ quote) refl
 
-abbrev sized : ℕ → Option Found
+abbrev sized : ℕ → Option Match
 sized zero = None
 sized (suc n) = Some (Symbol, suc n)
 
 abbrev kind_symbol : Bool → Option TokenKind
 kind_symbol b = cond b (Some Symbol) None
 
-by_size : (t u v : Bool) → found_or (kind_symbol t) 3 (found_or (kind_symbol u) 2 (found_or (kind_symbol v) 1 None)) ≡ sized (cond t 3 (cond u 2 (cond v 1 0)))
+by_size : (t u v : Bool) → match_or (kind_symbol t) 3 (match_or (kind_symbol u) 2 (match_or (kind_symbol v) 1 None)) ≡ sized (cond t 3 (cond u 2 (cond v 1 0)))
 by_size true u v = refl
 by_size false true v = refl
 by_size false false true = refl
@@ -340,17 +340,17 @@ above_symbol b c d (e ∷ ds) h (suc (suc (suc (suc m)))) lo hi = kind_other b (
 symbol_sized : (b : ℕ) (bs : List ℕ) → is_other b ≡ true → longest (b ∷ bs) ≡ sized (symbol_size b bs)
 unfolding longest symbol_size
 symbol_sized b [] h =
-    ap (λ k. found_or k 1 None) (kind_other b [] h)
+    ap (λ k. match_or k 1 None) (kind_other b [] h)
     ∙ by_size false false (is_symbol (b ∷ []))
     ∙ sym (ap₂ (λ (t u : Bool). sized (cond t 3 (cond u 2 (cond (is_symbol (b ∷ [])) 1 0)))) (right_false (b == 60 && false) false refl) (no_pair_at_end b))
 symbol_sized b (c ∷ []) h =
-    ap₂ (λ (l k : Option TokenKind). found_or l 2 (found_or k 1 None)) (kind_other b (c ∷ []) h) (kind_other b [] h)
+    ap₂ (λ (l k : Option TokenKind). match_or l 2 (match_or k 1 None)) (kind_other b (c ∷ []) h) (kind_other b [] h)
     ∙ by_size false (is_symbol (b ∷ c ∷ [])) (is_symbol (b ∷ []))
     ∙ sym (ap (λ (t : Bool). sized (cond t 3 (cond (is_symbol (b ∷ c ∷ [])) 2 (cond (is_symbol (b ∷ [])) 1 0)))) (right_false (b == 60 && c == 61) false refl))
 symbol_sized b (c ∷ d ∷ ds) h =
     within_above (b ∷ c ∷ d ∷ ds) 3 (length ds) (suc (suc (suc (length ds)))) (omega arith) (above_symbol b c d ds h)
-    ∙ ap₂ (λ (k l : Option TokenKind). found_or k 3 (found_or l 2 (found_or (kind_of (b ∷ [])) 1 None))) (kind_other b (c ∷ d ∷ []) h) (kind_other b (c ∷ []) h)
-    ∙ ap (λ (k : Option TokenKind). found_or (kind_symbol (is_symbol (b ∷ c ∷ d ∷ []))) 3 (found_or (kind_symbol (is_symbol (b ∷ c ∷ []))) 2 (found_or k 1 None))) (kind_other b [] h)
+    ∙ ap₂ (λ (k l : Option TokenKind). match_or k 3 (match_or l 2 (match_or (kind_of (b ∷ [])) 1 None))) (kind_other b (c ∷ d ∷ []) h) (kind_other b (c ∷ []) h)
+    ∙ ap (λ (k : Option TokenKind). match_or (kind_symbol (is_symbol (b ∷ c ∷ d ∷ []))) 3 (match_or (kind_symbol (is_symbol (b ∷ c ∷ []))) 2 (match_or k 1 None))) (kind_other b [] h)
     ∙ by_size (is_symbol (b ∷ c ∷ d ∷ [])) (is_symbol (b ∷ c ∷ [])) (is_symbol (b ∷ []))
 
 pub symbol_none : (b : ℕ) (bs : List ℕ) → is_other b ≡ true → symbol_size b bs ≡ 0 → longest (b ∷ bs) ≡ None
@@ -365,26 +365,26 @@ symbol_longest b bs n h e k = symbol_sized b bs h ∙ ap sized e ∙ sized_some 
 
 -- ---- what is found is a token at the front
 
-found_here : (found : Found) (text : List ℕ) (n : ℕ) (k : Option TokenKind) → k ≡ kind_of (take (suc n) text) → found_or k (suc n) (longest_within n text) ≡ Some found
+found_here : (found : Match) (text : List ℕ) (n : ℕ) (k : Option TokenKind) → k ≡ kind_of (take (suc n) text) → match_or k (suc n) (longest_within n text) ≡ Some found
     → (longest_within n text ≡ Some found → IsFront text n found) → IsFront text (suc n) found
 found_here found text n (Some kind) e h before =
     let same : (kind, suc n) ≡ found = cc in
-    let P : Found → Type 0 = λ f. IsFront text (suc n) f in
+    let P : Match → Type 0 = λ f. IsFront text (suc n) f in
     subst P same (record { some = omega arith; within = omega arith; kind = sym e })
 found_here found text n None e h before =
     let f = before h in record { some = f.some; within = omega arith; kind = f.kind }
 
-found_within : (found : Found) (text : List ℕ) (n : ℕ) → longest_within n text ≡ Some found → IsFront text n found
+found_within : (found : Match) (text : List ℕ) (n : ℕ) → longest_within n text ≡ Some found → IsFront text n found
 found_within found text zero h = cc
 found_within found text (suc n) h = found_here found text n (kind_of (take (suc n) text)) refl h (found_within found text n)
 
 -- the longest token has a byte, lies in the text, and is one token
-pub longest_front : (text : List ℕ) (found : Found) → longest text ≡ Some found → IsFront text (length text) found
+pub longest_front : (text : List ℕ) (found : Match) → longest text ≡ Some found → IsFront text (length text) found
 unfolding longest
 longest_front text found h = found_within found text (length text) h
 
-pub longest_some : (text : List ℕ) (found : Found) → longest text ≡ Some found → 1 ≤ found.1
+pub longest_some : (text : List ℕ) (found : Match) → longest text ≡ Some found → 1 ≤ found.1
 longest_some text found h = (longest_front text found h).some
 
-pub longest_within_text : (text : List ℕ) (found : Found) → longest text ≡ Some found → found.1 ≤ length text
+pub longest_within_text : (text : List ℕ) (found : Match) → longest text ≡ Some found → found.1 ≤ length text
 longest_within_text text found h = (longest_front text found h).within

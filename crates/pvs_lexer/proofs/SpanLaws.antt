@@ -8,12 +8,12 @@ use Rattle.pvs_base.specs.declared.code.Code.{Code}
 use Rattle.pvs_base.specs.declared.place.Pos.{Pos}
 use Rattle.pvs_base.specs.Place.{ends_line, place_after}
 use Rattle.pvs_lexer.specs.declared.token.Token.{Token}
-use Rattle.pvs_lexer.specs.Tokens.{kind_of, Found, longest, is_space, begins_comment, fault_of, Lexed, begun, tokens_from, tokens_of}
+use Rattle.pvs_lexer.specs.Tokens.{kind_of, Match, longest, is_space, begins_comment, fault_of, TokenStream, token_or_fault, tokens_from, tokens_of}
 use Rattle.pvs_lexer.specs.Spans.{AreSpans, IsTokenOf}
 use Rattle.pvs_lexer.proofs.LongestLaws.{IsFront, longest_front}
 
 -- what is to be shown of the tokens of the part of a text that begins at one offset and ends at another
-record AreIn (p : Pos) (text : List ℕ) (from to : ℕ) (lexed : Lexed) : Type 0 where
+record AreIn (p : Pos) (text : List ℕ) (from to : ℕ) (lexed : TokenStream) : Type 0 where
   spans : AreSpans from to lexed.tokens
   tokens : All (IsTokenOf p text) lexed.tokens
 
@@ -21,16 +21,16 @@ earlier : (a b to : ℕ) (tokens : List Token) → a ≤ b → AreSpans b to tok
 earlier a b to [] h s = omega arith
 earlier a b to (t ∷ ts) h s = (omega (arith, s.0), s.1, s.2)
 
-from_earlier : (p : Pos) (text : List ℕ) (a b to : ℕ) (lexed : Lexed) → a ≤ b → AreIn p text b to lexed → AreIn p text a to lexed
+from_earlier : (p : Pos) (text : List ℕ) (a b to : ℕ) (lexed : TokenStream) → a ≤ b → AreIn p text b to lexed → AreIn p text a to lexed
 from_earlier p text a b to lexed h all = record { spans = earlier a b to lexed.tokens h all.spans; tokens = all.tokens }
 
-pick_in : (p : Pos) (text : List ℕ) (from to : ℕ) (space comment : Bool) (x y z : Lexed) → AreIn p text from to x → AreIn p text from to y → AreIn p text from to z
+pick_in : (p : Pos) (text : List ℕ) (from to : ℕ) (space comment : Bool) (x y z : TokenStream) → AreIn p text from to x → AreIn p text from to y → AreIn p text from to z
     → AreIn p text from to (cond space x (cond comment y z))
 pick_in p text from to true comment x y z a b c = a
 pick_in p text from to false true x y z a b c = b
 pick_in p text from to false false x y z a b c = c
 
-front_is_token : (p : Pos) (text before rest : List ℕ) (found : Found) → text ≡ before ++ rest → IsFront rest (length rest) found
+front_is_token : (p : Pos) (text before rest : List ℕ) (found : Match) → text ≡ before ++ rest → IsFront rest (length rest) found
     → IsTokenOf p text (record { kind = found.0; start = length before; end = length before + found.1; pos = place_after p before })
 front_is_token p text before rest found e front = record {
   kind =
@@ -41,10 +41,10 @@ front_is_token p text before rest found e front = record {
   pos = ap (place_after p) (sym (ap (take (length before)) e ∙ take-append_seam before rest));
 }
 
-begun_in : (p : Pos) (text before rest : List ℕ) (code : Code) (found : Option Found) (behind : ℕ → Lexed) → text ≡ before ++ rest
-    → ((f : Found) → found ≡ Some f → IsFront rest (length rest) f)
+begun_in : (p : Pos) (text before rest : List ℕ) (code : Code) (found : Option Match) (behind : ℕ → TokenStream) → text ≡ before ++ rest
+    → ((f : Match) → found ≡ Some f → IsFront rest (length rest) f)
     → ((n : ℕ) → 1 ≤ n → n ≤ length rest → AreIn p text (length before + n) (length text) (behind n))
-    → AreIn p text (length before) (length text) (begun (length before) (place_after p before) code found behind)
+    → AreIn p text (length before) (length text) (token_or_fault (length before) (place_after p before) code found behind)
 begun_in p text before rest code None behind e front next = record { spans = omega (arith, ap length e, length-append before rest); tokens = All-nil (IsTokenOf p text) }
 begun_in p text before rest code (Some f) behind e front next =
     let here = front f refl in
@@ -69,15 +69,15 @@ all_in p text before zero (b ∷ bs) e h =
     (all_in p text (before ++ b ∷ []) n bs (e ∙ sym (append_assoc before (b ∷ []) bs)) l) in
     let run : ℕ = prefix_len (λ c. not (ends_line c)) bs in
     let short : run ≤ length bs = prefix_len-le-length (λ c. not (ends_line c)) bs in
-    let behind : ℕ → Lexed = λ n. tokens_from 0 p (before ++ b ∷ []) (n - 1) bs in
+    let behind : ℕ → TokenStream = λ n. tokens_from 0 p (before ++ b ∷ []) (n - 1) bs in
     let next : (n : ℕ) → 1 ≤ n → n ≤ length (b ∷ bs) → AreIn p text (length before + n) (length text) (behind n) =
     λ n some l. from_earlier p text (length before + n) (length before + suc (n - 1)) (length text) (behind n) (omega arith) (go (n - 1) (omega arith)) in
-    let IsAt : ℕ → Type 0 = λ s. AreIn p text (length before) (length text) (begun s (place_after p before) (fault_of b) (longest (b ∷ bs)) behind) in
+    let IsAt : ℕ → Type 0 = λ s. AreIn p text (length before) (length text) (token_or_fault s (place_after p before) (fault_of b) (longest (b ∷ bs)) behind) in
     let first : IsAt (length before) = begun_in p text before (b ∷ bs) (fault_of b) (longest (b ∷ bs)) behind e (longest_front (b ∷ bs)) next in
     pick_in p text (length before + 0) (length text) (is_space b) (begins_comment b) _ _ _
     (from_earlier p text (length before + 0) (length before + 1) (length text) (tokens_from 0 p (before ++ b ∷ []) 0 bs) (omega arith) (go 0 (omega arith)))
     (from_earlier p text (length before + 0) (length before + suc run) (length text) (tokens_from 0 p (before ++ b ∷ []) run bs) (omega arith) (go run short))
-    (from_earlier p text (length before + 0) (length before) (length text) (begun (0 + length before) (place_after p before) (fault_of b) (longest (b ∷ bs)) behind) (omega arith)
+    (from_earlier p text (length before + 0) (length before) (length text) (token_or_fault (0 + length before) (place_after p before) (fault_of b) (longest (b ∷ bs)) behind) (omega arith)
     (subst IsAt (omega arith) first))
 
 -- the tokens of a text

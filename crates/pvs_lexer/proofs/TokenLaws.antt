@@ -7,7 +7,7 @@ use Rattle.pvs_base.specs.declared.code.Code.{Code}
 use Rattle.pvs_base.specs.declared.place.Pos.{Pos}
 use Rattle.pvs_base.specs.Place.{ends_line, place_after}
 use Rattle.pvs_lexer.specs.declared.token.TokenKind.{TokenKind}
-use Rattle.pvs_lexer.specs.Tokens.{Found, longest, is_space, begins_comment, fault_of, Lexed, nothing, before_others, begun, tokens_from}
+use Rattle.pvs_lexer.specs.Tokens.{Match, longest, is_space, begins_comment, fault_of, TokenStream, no_tokens, before_others, token_or_fault, tokens_from}
 use Rattle.pvs_lexer.specs.Scan.{blank}
 use Rattle.pvs_lexer.proofs.Places.{place_here, place_append}
 
@@ -21,14 +21,14 @@ covered o p before (suc k) (b ∷ bs) =
 
 -- ---- a text from a later byte on
 
-begun_same : (found : Option Found) (s t : ℕ) (p q : Pos) (code : Code) (f g : ℕ → Lexed) → s ≡ t → p ≡ q → ((n : ℕ) → f n ≡ g n)
-    → begun s p code found f ≡ begun t q code found g
-begun_same None s t p q code f g e h k = ap (λ (x : Pos). begun 0 x code None f) h
+begun_same : (found : Option Match) (s t : ℕ) (p q : Pos) (code : Code) (f g : ℕ → TokenStream) → s ≡ t → p ≡ q → ((n : ℕ) → f n ≡ g n)
+    → token_or_fault s p code found f ≡ token_or_fault t q code found g
+begun_same None s t p q code f g e h k = ap (λ (x : Pos). token_or_fault 0 x code None f) h
 begun_same (Some found) s t p q code f g e h k =
     ap₂ (λ (x : ℕ) (y : Pos). before_others (record { kind = found.0; start = x; end = x + found.1; pos = y }) (f found.1)) e h
-    ∙ ap (λ (l : Lexed). before_others (record { kind = found.0; start = t; end = t + found.1; pos = q }) l) (k found.1)
+    ∙ ap (λ (l : TokenStream). before_others (record { kind = found.0; start = t; end = t + found.1; pos = q }) l) (k found.1)
 
-pick_same : (space comment : Bool) (a b c x y z : Lexed) → a ≡ x → b ≡ y → c ≡ z → cond space a (cond comment b c) ≡ cond space x (cond comment y z)
+pick_same : (space comment : Bool) (a b c x y z : TokenStream) → a ≡ x → b ≡ y → c ≡ z → cond space a (cond comment b c) ≡ cond space x (cond comment y z)
 pick_same true comment a b c x y z e f g = e
 pick_same false true a b c x y z e f g = f
 pick_same false false a b c x y z e f g = g
@@ -57,7 +57,7 @@ tokens_past o p k rest h =
 
 -- ---- the first byte
 
-by_blank : (space comment : Bool) (run n : ℕ) (f : ℕ → Lexed) (other : Lexed) → cond space 1 (cond comment (1 + run) 0) ≡ n → n ≢ 0
+by_blank : (space comment : Bool) (run n : ℕ) (f : ℕ → TokenStream) (other : TokenStream) → cond space 1 (cond comment (1 + run) 0) ≡ n → n ≢ 0
     → cond space (f 0) (cond comment (f run) other) ≡ f (n - 1)
 by_blank true comment run n f other e h = ap f (omega arith)
 by_blank false true run n f other e h = ap f (omega arith)
@@ -70,13 +70,13 @@ blank_past o p b (suc n) bs e h =
     by_blank (is_space b) (begins_comment b) (prefix_len (λ c. not (ends_line c)) bs) (suc n) (λ k. tokens_from o p (b ∷ []) k bs) _ e h
     ∙ ap (λ k. tokens_from o p (b ∷ []) k bs) (omega arith)
 
-by_other : (space comment : Bool) (run : ℕ) (x y other : Lexed) → cond space 1 (cond comment (1 + run) 0) ≡ 0 → cond space x (cond comment y other) ≡ other
+by_other : (space comment : Bool) (run : ℕ) (x y other : TokenStream) → cond space 1 (cond comment (1 + run) 0) ≡ 0 → cond space x (cond comment y other) ≡ other
 by_other true comment run x y other e = absurd (omega arith)
 by_other false true run x y other e = absurd (omega arith)
 by_other false false run x y other e = refl
 
 no_blank : (o : ℕ) (p : Pos) (b : ℕ) (bs : List ℕ) → blank b bs ≡ 0
-    → tokens_from o p [] 0 (b ∷ bs) ≡ begun o p (fault_of b) (longest (b ∷ bs)) (λ n. tokens_from o p (b ∷ []) (n - 1) bs)
+    → tokens_from o p [] 0 (b ∷ bs) ≡ token_or_fault o p (fault_of b) (longest (b ∷ bs)) (λ n. tokens_from o p (b ∷ []) (n - 1) bs)
 no_blank o p b bs e =
     by_other (is_space b) (begins_comment b) (prefix_len (λ c. not (ends_line c)) bs) _ _ _ e
     ∙ begun_same (longest (b ∷ bs)) (o + 0) o (place_after p []) p (fault_of b) _ _ (omega arith) (place_here p) (λ n. refl)
@@ -87,13 +87,13 @@ pub token_first : (o : ℕ) (p : Pos) (b : ℕ) (bs : List ℕ) (kind : TokenKin
 token_first o p b bs kind zero e found h = absurd (omega arith)
 token_first o p b bs kind (suc n) e found h =
     no_blank o p b bs e
-    ∙ ap (λ f. begun o p (fault_of b) f (λ m. tokens_from o p (b ∷ []) (m - 1) bs)) found
+    ∙ ap (λ f. token_or_fault o p (fault_of b) f (λ m. tokens_from o p (b ∷ []) (m - 1) bs)) found
     ∙ ap (λ m. before_others (record { kind = kind; start = o; end = o + suc n; pos = p }) (tokens_from o p (b ∷ []) m bs)) (omega arith)
 
 -- where none does, there is a fault
 pub fault_first : (o : ℕ) (p : Pos) (b : ℕ) (bs : List ℕ) → blank b bs ≡ 0 → longest (b ∷ bs) ≡ None
     → tokens_from o p [] 0 (b ∷ bs) ≡ record { tokens = []; fault = Some (record { pos = p; code = fault_of b }) }
-fault_first o p b bs e found = no_blank o p b bs e ∙ ap (λ f. begun o p (fault_of b) f (λ m. tokens_from o p (b ∷ []) (m - 1) bs)) found
+fault_first o p b bs e found = no_blank o p b bs e ∙ ap (λ f. token_or_fault o p (fault_of b) f (λ m. tokens_from o p (b ∷ []) (m - 1) bs)) found
 
 -- ---- the same, of a text whose first byte is read by its index
 
@@ -110,6 +110,6 @@ pub fault_step : (o : ℕ) (p : Pos) (text : List ℕ) → BeginsNoBlank text �
 fault_step o p [] e l found = absurd (omega arith)
 fault_step o p (b ∷ bs) e l found = fault_first o p b bs e (ap (λ xs. longest (b ∷ xs)) (sym (take_rest (b ∷ bs) 1)) ∙ found)
 
-pub end_step : (o : ℕ) (p : Pos) (text : List ℕ) → length text ≤ 0 → tokens_from o p [] 0 text ≡ nothing
+pub end_step : (o : ℕ) (p : Pos) (text : List ℕ) → length text ≤ 0 → tokens_from o p [] 0 text ≡ no_tokens
 end_step o p [] h = refl
 end_step o p (b ∷ bs) h = absurd (omega arith)

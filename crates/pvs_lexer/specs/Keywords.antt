@@ -1,5 +1,5 @@
 -- Which word is a keyword.
-use Rattle.std.specs.Prelude.{ℕ, Bool, true, false, if◌then◌else◌, List, [], ◌∷◌, ◌++◌, codes, Option, Some, None}
+use Rattle.std.specs.Prelude.{ℕ, if◌then◌else◌, List, [], ◌∷◌, ◌++◌, codes, Option, Some, None}
 use Rattle.std.specs.Str.{str_eq_ignore_ascii_case}
 use Rattle.pvs_lexer.specs.declared.words.Keyword.{Keyword}
 use Rattle.pvs_lexer.specs.declared.words.Keyword.TheVariants as k
@@ -83,27 +83,3 @@ find (entry ∷ entries) word = if str_eq_ignore_ascii_case entry.0 word then So
 -- Which keyword a word is, in any case of its letters. A word that is none is an identifier.
 unfoldable pub keyword_of : List ℕ → Option Keyword
 keyword_of word = find (grammar_words ++ outside_words) word
-
--- whether a keyword is one of PVS that no form of the grammar has
-abbrev pub is_outside : Keyword → Bool
-is_outside k.Cases = true
-is_outside k.Codatatype = true
-is_outside k.Cond = true
-is_outside k.Conversion = true
-is_outside k.Datatype = true
-is_outside k.Exporting = true
-is_outside k.From = true
-is_outside k.HasType = true
-is_outside k.Inductive = true
-is_outside k.Judgement = true
-is_outside k.Library = true
-is_outside k.Macro = true
-is_outside k.Measure = true
-is_outside k.Recursive = true
-is_outside k.SubtypeOf = true
-is_outside k.Table = true
-is_outside k.When = true
-is_outside k.Where = true
-is_outside k.With = true
-is_outside k.Xor = true
-is_outside _ = false

@@ -14,7 +14,7 @@ is_in class.Digit b = is_ascii_digit b
 is_in class.Line b = not (ends_line b)
 is_in class.Inside b = not (is_quote b)
 
--- whether a byte and the text behind it begin with `v!` or `s!` and a digit that is not 0
+-- whether a byte and the text after it begin with `v!` or `s!` and a digit that is not 0
 unfoldable pub begins_variable : ℕ → List ℕ → Bool
 begins_variable first rest =
     (first == 118 || first == 115) && slice_index rest 0 == 33 && (nat_le 49 (slice_index rest 1) && nat_le (slice_index rest 1) 57)
@@ -23,7 +23,7 @@ begins_variable first rest =
 abbrev pub is_other : ℕ → Bool
 is_other b = not (is_ascii_alphabetic b) && not (is_ascii_digit b) && not (is_quote b)
 
--- how many bytes the symbol has that begins with a byte and goes on with the text behind it; 0: there is none
+-- how many bytes the symbol has that begins with a byte and goes on with the text after it; 0: there is none
 unfoldable pub symbol_size : ℕ → List ℕ → ℕ
 symbol_size first rest =
     if first == 60 && slice_index rest 0 == 61 && slice_index rest 1 == 62 then 3

@@ -1,12 +1,12 @@
 -- How the tokens of a text lie in it.
-use Rattle.std.specs.Prelude.{◌≡◌, ℕ, ◌-◌, ◌<◌, ◌≤◌, List, [], ◌∷◌, take, drop, Some}
+use Rattle.std.specs.Prelude.{◌≡◌, ℕ, ◌<◌, ◌≤◌, List, [], ◌∷◌, take, Some}
 use Rattle.pvs_base.specs.declared.place.Pos.{Pos}
 use Rattle.pvs_base.specs.Place.{place_after}
 use Rattle.pvs_base.specs.Spans.{span_of}
 use Rattle.pvs_lexer.specs.declared.token.Token.{Token}
 use Rattle.pvs_lexer.specs.Tokens.{kind_of}
 
--- The spans lie between two offsets, one behind another, and none is empty.
+-- The spans lie between two offsets, one after another, and none is empty.
 abbrev pub AreSpans : ℕ → ℕ → List Token → Type 0
 AreSpans from to [] = from ≤ to
 AreSpans from to (token ∷ tokens) = (from ≤ token.start) × (token.start < token.end) × AreSpans token.end to tokens

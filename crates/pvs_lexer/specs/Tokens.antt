@@ -14,7 +14,7 @@ use Rattle.pvs_lexer.specs.declared.token.TokenKind.TheVariants.{Word, Bang, Num
 
 -- ---- What bytes are one token.
 
--- a byte of a word behind its first letter: a letter, a digit, `_` or `?`
+-- a byte of a word after its first letter: a letter, a digit, `_` or `?`
 abbrev pub is_word_byte : ℕ → Bool
 is_word_byte b = is_ascii_alphanumeric b || b == 95 || b == 63
 
@@ -77,21 +77,21 @@ kind_of bytes =
 -- ---- The longest token.
 
 -- a kind, and how many bytes it takes
-abbrev pub Found : Type 0
-Found = TokenKind × ℕ
+abbrev pub Match : Type 0
+Match = TokenKind × ℕ
 
 -- the token of so many bytes, if these are one, and what else there is
-abbrev pub found_or : Option TokenKind → ℕ → Option Found → Option Found
-found_or (Some kind) size other = Some (kind, size)
-found_or None size other = other
+abbrev pub match_or : Option TokenKind → ℕ → Option Match → Option Match
+match_or (Some kind) size other = Some (kind, size)
+match_or None size other = other
 
 -- the longest token that begins a text and has at most so many bytes
-abbrev pub longest_within : ℕ → List ℕ → Option Found
+abbrev pub longest_within : ℕ → List ℕ → Option Match
 longest_within zero text = None
-longest_within (suc n) text = found_or (kind_of (take (suc n) text)) (suc n) (longest_within n text)
+longest_within (suc n) text = match_or (kind_of (take (suc n) text)) (suc n) (longest_within n text)
 
 -- the longest token that begins a text
-unfoldable pub longest : List ℕ → Option Found
+unfoldable pub longest : List ℕ → Option Match
 longest text = longest_within (length text) text
 
 -- ---- The tokens of a text.
@@ -104,40 +104,40 @@ is_space b = b == 32 || b == 9 || b == 13 || b == 10 || b == 12
 abbrev pub begins_comment : ℕ → Bool
 begins_comment b = b == 37
 
--- the tokens of a text, and the fault that stands behind them, if there is one
-pub record Lexed : Type 0 where
+-- the tokens of a text, and the fault that stands after them, if there is one
+pub record TokenStream : Type 0 where
   pub tokens : List Token
   pub fault : Option Fault
 
 -- nothing comes
-abbrev pub nothing : Lexed
-nothing = record { tokens = []; fault = None }
+abbrev pub no_tokens : TokenStream
+no_tokens = record { tokens = []; fault = None }
 
 -- a token before others
-abbrev pub before_others : Token → Lexed → Lexed
+abbrev pub before_others : Token → TokenStream → TokenStream
 before_others token others = record { tokens = token ∷ others.tokens; fault = others.fault }
 
 -- why no token begins with a byte: a quote has no second one, or no token begins so at all
 abbrev pub fault_of : ℕ → Code
 fault_of b = if is_quote b then UnclosedQuote else BadByte
 
--- The token that is found at an offset and a place, before what comes behind its bytes; or a fault.
-abbrev pub begun : ℕ → Pos → Code → Option Found → (ℕ → Lexed) → Lexed
-begun start pos code None behind = record { tokens = []; fault = Some (record { pos = pos; code = code }) }
-begun start pos code (Some found) behind =
+-- The token that is found at an offset and a place, before what comes after its bytes; or a fault.
+abbrev pub token_or_fault : ℕ → Pos → Code → Option Match → (ℕ → TokenStream) → TokenStream
+token_or_fault start pos code None behind = record { tokens = []; fault = Some (record { pos = pos; code = code }) }
+token_or_fault start pos code (Some found) behind =
     before_others (record { kind = found.0; start = start; end = start + found.1; pos = pos }) (behind found.1)
 
 -- The tokens of the rest of a text that begins at an offset and a place, with the bytes before the rest.
 -- So many bytes of the rest are covered: they belong to a token or a comment that begins before.
-abbrev pub tokens_from : ℕ → Pos → List ℕ → ℕ → List ℕ → Lexed
-tokens_from offset first before covered [] = nothing
+abbrev pub tokens_from : ℕ → Pos → List ℕ → ℕ → List ℕ → TokenStream
+tokens_from offset first before covered [] = no_tokens
 tokens_from offset first before (suc covered) (b ∷ bs) = tokens_from offset first (before ++ b ∷ []) covered bs
 tokens_from offset first before zero (b ∷ bs) =
     if is_space b then tokens_from offset first (before ++ b ∷ []) 0 bs
     else (if begins_comment b then tokens_from offset first (before ++ b ∷ []) (prefix_len (λ c. not (ends_line c)) bs) bs
-    else begun (offset + length before) (place_after first before) (fault_of b) (longest (b ∷ bs))
+    else token_or_fault (offset + length before) (place_after first before) (fault_of b) (longest (b ∷ bs))
     (λ n. tokens_from offset first (before ++ b ∷ []) (n - 1) bs))
 
 -- the tokens of a whole text, whose first byte has this place
-unfoldable pub tokens_of : Pos → List ℕ → Lexed
+unfoldable pub tokens_of : Pos → List ℕ → TokenStream
 tokens_of first text = tokens_from 0 first [] 0 text

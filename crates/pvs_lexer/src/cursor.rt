@@ -15,12 +15,12 @@ pub struct Cursor<'a> {
     pub pos: Pos,
 }
 
-/// The cursor behind so many bytes.
+/// The cursor after so many bytes.
 pub fn past<'a>(cursor: Cursor<'a>, size: usize) -> Cursor<'a>
     requires room { spec.HasRoom cursor }
     requires within { size ≤ length cursor.rest.now }
     ensures room { spec.HasRoom result }
-    ensures same { spec.left result 0 ≡ spec.left cursor.entry size }
+    ensures same { spec.tokens_left result 0 ≡ spec.tokens_left cursor.entry size }
     ensures rest { result.rest.now ≡ drop size cursor.entry.rest.now }
     ensures offset { result.offset ≡ cursor.entry.offset + size }
 {
@@ -35,11 +35,11 @@ pub fn past<'a>(cursor: Cursor<'a>, size: usize) -> Cursor<'a>
     }
 }
 
-/// The cursor behind the white space and the comments that stand here.
+/// The cursor after the white space and the comments that stand here.
 pub fn past_blanks<'a>(mut cursor: Cursor<'a>) -> Cursor<'a>
     requires { spec.HasRoom cursor }
     ensures room { spec.HasRoom result }
-    ensures same { spec.left result 0 ≡ spec.left cursor.entry 0 }
+    ensures same { spec.tokens_left result 0 ≡ spec.tokens_left cursor.entry 0 }
     ensures stops { spec.BeginsNoBlank result.rest.now }
 {
     while let [first, rest @ ..] = cursor.rest {

@@ -4,7 +4,7 @@ ghost use Rattle.std.specs.Prelude.{◌≡◌, ◌≤◌, ◌+◌, ◌^◌, leng
 ghost use Rattle.pvs_lexer.specs.Tokens as spec;
 ghost use Rattle.pvs_lexer.specs.Tokens.{tokens_of};
 ghost use Rattle.pvs_lexer.specs.Spans.{AreSpans, IsTokenOf};
-ghost use Rattle.pvs_lexer.specs.Answers.{answer_of, behind_answer};
+ghost use Rattle.pvs_lexer.specs.Answers.{answer_of, after_answer};
 
 use crate::cursor::{Cursor, past, past_blanks};
 use crate::scan::longest;
@@ -13,20 +13,20 @@ use pvs_base::{Code, Fault, Pos};
 use std::marker::Model;
 
 /// A reader of the tokens of a text. Contracts see it as the tokens that are still to come, with
-/// the fault behind them, if there is one.
+/// the fault after them, if there is one.
 #[derive(Drop)]
 pub struct Lexer<'a> {
     cursor: Cursor<'a>,
 }
 
 impl<'a> Model for Lexer<'a> {
-    ghost use Rattle.pvs_lexer.specs.Tokens.{Lexed};
+    ghost use Rattle.pvs_lexer.specs.Tokens.{TokenStream};
 
-    ghost Value = { Lexed };
+    ghost Value = { TokenStream };
 
-    ghost use Rattle.pvs_lexer.specs.Cursor.{left, HasRoom};
+    ghost use Rattle.pvs_lexer.specs.Cursor.{tokens_left, HasRoom};
 
-    ghost view = { λ l. left l.cursor 0 };
+    ghost view = { λ l. tokens_left l.cursor 0 };
 
     ghost invariant = { λ l. HasRoom l.cursor };
 }
@@ -61,7 +61,7 @@ impl<'a> Lexer<'a> {
     /// UnclosedQuote, at its place, for a `"` without a second one.
     pub fn next(&mut self) -> Option<Result<Token, Fault>>
         ensures answer { result ≡ answer_of self.old }
-        ensures behind { self.new ≡ behind_answer self.old }
+        ensures rest { self.new ≡ after_answer self.old }
     {
         let cursor = past_blanks(self.cursor);
         let [first, rest @ ..] = cursor.rest else {

@@ -117,7 +117,6 @@ fn words_and_spellings(rt: HostRuntime) {
     assert!(rt; keyword(b"NonEmpty_Type") == Some(Keyword::NonemptyType));
     assert!(rt; keyword(b"XOR") == Some(Keyword::Xor));
     assert!(rt; keyword(b"proof").is_none());
-    assert!(rt; Keyword::Xor.is_outside() && !Keyword::Or.is_outside());
     assert!(rt; spelling(b"abcde", 1, 3) == b"bc".as_slice());
     assert!(rt; spelling(b"abcde", 3, 9) == b"de".as_slice());
     assert!(rt; spelling(b"abcde", 3, 1).is_empty());

@@ -1,8 +1,5 @@
 //! The keywords.
 
-ghost use Rattle.std.specs.Prelude.{◌≡◌};
-ghost use Rattle.pvs_lexer.specs.Keywords.{is_outside};
-
 /// A word that is no identifier, in any case of its letters.
 #[derive(Clone, Copy, Debug, PartialEq, Eq)]
 pub enum Keyword {
@@ -70,35 +67,4 @@ pub enum Keyword {
     Where,
     With,
     Xor,
-}
-
-impl Keyword {
-    /// Whether PVS has the word and no form of this checker's grammar does.
-    pub fn is_outside(self) -> bool
-        ensures { result ≡ is_outside self }
-    {
-        matches!(
-            self,
-            Keyword::Cases
-                | Keyword::Codatatype
-                | Keyword::Cond
-                | Keyword::Conversion
-                | Keyword::Datatype
-                | Keyword::Exporting
-                | Keyword::From
-                | Keyword::HasType
-                | Keyword::Inductive
-                | Keyword::Judgement
-                | Keyword::Library
-                | Keyword::Macro
-                | Keyword::Measure
-                | Keyword::Recursive
-                | Keyword::SubtypeOf
-                | Keyword::Table
-                | Keyword::When
-                | Keyword::Where
-                | Keyword::With
-                | Keyword::Xor
-        )
-    }
 }

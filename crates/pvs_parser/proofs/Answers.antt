@@ -6,10 +6,15 @@ use Rattle.pvs_syntax.specs.declared.expression.Expr.{Expr}
 use Rattle.pvs_syntax.specs.declared.unit.Unit as tree
 use Rattle.pvs_parser.specs.declared.failure.ParseFault.{ParseFault}
 use Rattle.pvs_parser.specs.declared.failure.ParseFault.TheVariants as parse_fault
+use Rattle.pvs_syntax.specs.Trees.{IsTreeOf, IsTreeOfTerm, quoted_term}
+use Rattle.pvs_parser.specs.Language.{outermost, whole}
 use Rattle.pvs_parser.specs.Reading.{Returns, read_text, read_span}
-use Rattle.pvs_parser.specs.Text.{Reads, ReadsSpan, AnswersTree, AnswersFault, IsFirstFault, IsFirstFaultOfSpan, IsAnswer, IsSpanAnswer, Answers, AnswersSpan, SpansIn}
+use Rattle.pvs_parser.specs.Text.{Reads, ReadsSpan, AnswersTree, AnswersFault, IsFirstFault, IsFirstFaultOfSpan, IsAnswer, IsSpanAnswer, Answers, AnswersSpan, SpansIn, terminals_of_span}
 use Rattle.pvs_parser.proofs.Texts.{text_sound, text_complete, span_sound, span_complete, text_answer, span_answer, unit_or_fault, fault_same, expr_or_fault, span_fault_same}
 use Rattle.pvs_parser.proofs.ScriptSpans.{spans_in}
+use Rattle.pvs_parser.proofs.ExprTrees.{is_in}
+use Rattle.pvs_parser.proofs.TextTokens.{span_terminals}
+use Rattle.pvs_parser.proofs.UnitTrees.{unit_tree}
 
 same_tree : {A : Type 0} (o : Result A Fault) (x y : A) → o ≡ Ok x → o ≡ Ok y → x ≡ y
 same_tree o x y e f = cc
@@ -56,3 +61,13 @@ pub expr_first : (text : List ℕ) (start end : ℕ) (pos : Pos) (r : Result Exp
 expr_first text start end pos (Ok y) e f h = expr_or_fault text start end pos y f (span_sound text start end pos y e) h
 expr_first text start end pos (Err (parse_fault.At g)) e f h = span_fault_same text start end pos g f (subst (λ z. IsSpanAnswer text start end pos z) e (span_answer text start end pos)) h
 expr_first text start end pos (Err parse_fault.Memory) e f h = tt
+
+pub unit_is_tree : (text : List ℕ) (r : Result tree.Unit ParseFault) → Returns r (read_text text) → IfOk r (λ u. IsTreeOf text u)
+unit_is_tree text (Ok u) e = unit_tree text u (text_sound text u e)
+unit_is_tree text (Err f) e = tt
+
+pub expr_is_tree : (text : List ℕ) (start end : ℕ) (pos : Pos) → start ≤ end → end ≤ length text → (r : Result Expr ParseFault) → Returns r (read_span text start end pos) → IfOk r (λ x. IsTreeOfTerm text start pos x)
+expr_is_tree text start end pos order within (Ok x) e =
+    let d = (span_sound text start end pos x e).reads in
+    is_in (quoted_term text start pos) (whole d.0) outermost (terminals_of_span text start end pos).tokens x d.1 d.2 (span_terminals text start end pos order within)
+expr_is_tree text start end pos order within (Err f) e = tt

@@ -15,7 +15,7 @@ use Rattle.pvs_parser.specs.Language as l
 use Rattle.pvs_parser.specs.Language.{Limit, Item, Tokens, Derives, outermost}
 use Rattle.pvs_parser.specs.Units.{DerivesIds, DerivesTypeWord, DerivesVariables, DerivesParameters, DerivesBody, DerivesDecl, DerivesAssumed, const_decl, formula_of}
 use Rattle.pvs_base.specs.Answers.{◌>>=◌}
-use Rattle.pvs_parser.specs.UnitDescent.{type, plus, variables, body, constant, function, constants, type_definition, type_decls, types, formula, formulas, stated, declared_of, declared, named, begun, declaration, assumed_of, assumed_after, assumed}
+use Rattle.pvs_parser.specs.UnitDescent.{type, plus, variables, body, constant, function, constants, type_definition, type_decls, types, formula, formulas, formulas_or_constants, decls_of_kind, decls_after_colon, declaration_of_names, declaration_from_id, declaration, assuming_decls_of_kind, assuming_decls_after_colon, assuming_decl}
 use Rattle.pvs_parser.proofs.Yields.{Yields, here, none, bind, cases, weaken}
 use Rattle.pvs_parser.proofs.DescentSteps.{after_yields, expect_yields, id_bind, Splits, glue, put, alone, nothing}
 use Rattle.pvs_parser.proofs.Deeper.{Fore, expr_sound, type_sound, framed_sound}
@@ -104,28 +104,28 @@ formulas_sound limit ns (w ∷ []) u t f ts D d made =
 formulas_sound limit ns (w ∷ v ∷ ws) u t f ts D d made = none
 
 stated_sound : (limit : Limit) (ns : Tokens) (ws : List Word) (u t : Terminal) (ts : Tokens) → DerivesIds limit ns ws → Is kind.Colon u → (o : Option FormulaWord) → formula_of t.kind ≡ o
-    → Yields (stated limit ws t ts o) (Behind (DerivesDecl limit) ns u (t ∷ ts))
+    → Yields (formulas_or_constants limit ws t ts o) (Behind (DerivesDecl limit) ns u (t ∷ ts))
 stated_sound limit ns ws u t ts d colon (Some f) is = formulas_sound limit ns ws u t f ts (DerivesDecl limit) d (λ v e vs x m id d. DerivesDecl.formula e vs x f m v u t id colon is d)
 stated_sound limit ns ws u t ts d colon None is = constants_sound limit ns ws u (t ∷ ts) d colon
 
 -- ---- one declaration
 
 declared_of_sound : (limit : Limit) (ns : Tokens) (ws : List Word) (u t : Terminal) (ts : Tokens) → DerivesIds limit ns ws → Is kind.Colon u → (k : TerminalKind) → t.kind ≡ k
-    → Yields (declared_of limit ws t ts k) (Behind (DerivesDecl limit) ns u (t ∷ ts))
+    → Yields (decls_of_kind limit ws t ts k) (Behind (DerivesDecl limit) ns u (t ∷ ts))
 declared_of_sound limit ns ws u t ts d colon kind.Type is = types_sound limit ns ws u t ts d colon is
 declared_of_sound limit ns ws u t ts d colon kind.NonemptyType is = here (t ∷ [], alone refl, DerivesDecl.types ns (t ∷ []) ws true u d colon (DerivesTypeWord.nonempty_type t is))
 declared_of_sound limit ns ws u t ts d colon kind.Var is = weaken (λ p f. (f.0, f.1, DerivesDecl.variables (ns ++ u ∷ f.0) p.0 f.2)) (variables_sound limit ns ws u t ts d colon is)
 declared_of_sound limit ns ws u t ts d colon k is = stated_sound limit ns ws u t ts d colon (formula_of k) (ap formula_of is)
 
-declared_sound : (limit : Limit) (ns : Tokens) (ws : List Word) (u : Terminal) (ts : Tokens) → DerivesIds limit ns ws → Is kind.Colon u → Yields (declared limit ws ts) (Behind (DerivesDecl limit) ns u ts)
+declared_sound : (limit : Limit) (ns : Tokens) (ws : List Word) (u : Terminal) (ts : Tokens) → DerivesIds limit ns ws → Is kind.Colon u → Yields (decls_after_colon limit ws ts) (Behind (DerivesDecl limit) ns u ts)
 declared_sound limit ns ws u [] d colon = none
 declared_sound limit ns ws u (t ∷ ts) d colon = declared_of_sound limit ns ws u t ts d colon t.kind refl
 
-named_sound : (limit : Limit) (ts : Tokens) → Yields (named limit ts) (Fore (DerivesDecl limit) ts)
+named_sound : (limit : Limit) (ts : Tokens) → Yields (declaration_of_names limit ts) (Fore (DerivesDecl limit) ts)
 named_sound limit ts =
     bind (ids_sound limit ts) (λ p f. bind (expect_yields kind.Colon p.1) (λ us a. weaken (λ q g. (f.0 ++ a.0 ∷ g.0, glue f.1 (put a.1 g.1), g.2)) (declared_sound limit f.0 p.0 a.0 us f.2 a.2)))
 
-begun_sound : (limit : Limit) (ts : Tokens) → Yields (begun limit ts) (Fore (DerivesDecl limit) ts)
+begun_sound : (limit : Limit) (ts : Tokens) → Yields (declaration_from_id limit ts) (Fore (DerivesDecl limit) ts)
 begun_sound limit ts = id_bind ts _ (λ t us e is. cases
     (λ vs a. let c = (after_yields kind.Open us).holds vs a in function_sound limit t c.0 ts us vs e is c.1 c.2)
     (λ a. named_sound limit ts))
@@ -138,17 +138,17 @@ declaration_sound limit ts = cases
 -- ---- one declaration of an assuming part
 
 assumed_of_sound : (limit : Limit) (ns : Tokens) (ws : List Word) (u t : Terminal) (ts : Tokens) → DerivesIds limit ns ws → Is kind.Colon u → (k : TerminalKind) → t.kind ≡ k
-    → Yields (assumed_of limit ws t ts k) (Behind (DerivesAssumed limit) ns u (t ∷ ts))
+    → Yields (assuming_decls_of_kind limit ws t ts k) (Behind (DerivesAssumed limit) ns u (t ∷ ts))
 assumed_of_sound limit ns ws u t ts d colon kind.Var is = weaken (λ p f. (f.0, f.1, DerivesAssumed.variables (ns ++ u ∷ f.0) p.0 f.2)) (variables_sound limit ns ws u t ts d colon is)
 assumed_of_sound limit ns ws u t ts d colon kind.Assumption is =
     formulas_sound limit ns ws u t formula_word.Assumption ts (DerivesAssumed limit) d (λ v e vs x m id d. DerivesAssumed.assumption_of e vs x m v u t id colon is d)
 assumed_of_sound limit ns ws u t ts d colon _ is = none
 
-assumed_after_sound : (limit : Limit) (ns : Tokens) (ws : List Word) (u : Terminal) (ts : Tokens) → DerivesIds limit ns ws → Is kind.Colon u → Yields (assumed_after limit ws ts) (Behind (DerivesAssumed limit) ns u ts)
+assumed_after_sound : (limit : Limit) (ns : Tokens) (ws : List Word) (u : Terminal) (ts : Tokens) → DerivesIds limit ns ws → Is kind.Colon u → Yields (assuming_decls_after_colon limit ws ts) (Behind (DerivesAssumed limit) ns u ts)
 assumed_after_sound limit ns ws u [] d colon = none
 assumed_after_sound limit ns ws u (t ∷ ts) d colon = assumed_of_sound limit ns ws u t ts d colon t.kind refl
 
-pub assumed_sound : (limit : Limit) (ts : Tokens) → Yields (assumed limit ts) (Fore (DerivesAssumed limit) ts)
+pub assumed_sound : (limit : Limit) (ts : Tokens) → Yields (assuming_decl limit ts) (Fore (DerivesAssumed limit) ts)
 assumed_sound limit ts = cases
     (λ us a. let c = (after_yields kind.Importing ts).holds us a in weaken (λ p f. (f.0, f.1, DerivesAssumed.importing f.0 p.0 f.2)) (importing_sound limit c.0 ts us c.1 c.2))
     (λ a. bind (ids_sound limit ts) (λ p f. bind (expect_yields kind.Colon p.1) (λ us a. weaken (λ q g. (f.0 ++ a.0 ∷ g.0, glue f.1 (put a.1 g.1), g.2)) (assumed_after_sound limit f.0 p.0 a.0 us f.2 a.2))))

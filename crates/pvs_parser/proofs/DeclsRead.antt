@@ -16,7 +16,7 @@ use Rattle.pvs_parser.specs.Terminals.{Is, IsId, is_id}
 use Rattle.pvs_parser.specs.Language.{Limit, IsBelow, Tokens, Derives, type_, outermost}
 use Rattle.pvs_parser.specs.Units.{DerivesIds, DerivesTypeWord, DerivesImporting, DerivesVariables, DerivesParameters, DerivesBody, DerivesDecl, DerivesAssumed, type_decl, var_decl, const_decl, formula_of}
 use Rattle.pvs_parser.specs.Descent.{Answer, after, starts_type}
-use Rattle.pvs_parser.specs.UnitDescent.{type, variables, body, constant, constants, type_decls, types, formula, stated, declared_of, declared, named, declaration, assumed_of, assumed_after, assumed, comes_kind}
+use Rattle.pvs_parser.specs.UnitDescent.{type, variables, body, constant, constants, type_decls, types, formula, formulas_or_constants, decls_of_kind, decls_after_colon, declaration_of_names, declaration, assuming_decls_of_kind, assuming_decls_after_colon, assuming_decl, comes_kind}
 use Rattle.pvs_parser.proofs.Follows.{Ends}
 use Rattle.pvs_parser.proofs.Gets.{Gets, found, then_, there, absent, takes, names, after_is, both, unglue}
 use Rattle.pvs_parser.proofs.DescentSteps.{Splits}
@@ -34,7 +34,7 @@ same e g = record { is = e ∙ g.is }
 
 -- what is read of a declaration, behind its names and the colon
 abbrev Declares : Limit → List Word → Tokens → List Decl → Tokens → Type 0
-Declares limit ws all ds us = Gets (declared limit ws all) (ds, us)
+Declares limit ws all ds us = Gets (decls_after_colon limit ws all) (ds, us)
 
 types_go : (limit : Limit) (ws : List Word) (ts : Tokens) → after kind.Equal ts ≡ None → types limit ws ts ≡ type_decls ws ts
 types_go limit [] ts e = refl
@@ -43,10 +43,10 @@ types_go limit (w ∷ v ∷ ws) ts e = refl
 
 declares_types : (limit : Limit) (ts : Tokens) (nonempty : Bool) → DerivesTypeWord ts nonempty → (ws : List Word) (us : Tokens) → DeclEnds us → Declares limit ws (ts ++ us) (map (type_decl nonempty) ws) us
 declares_types limit _ _ (DerivesTypeWord.type t is) ws us ends =
-    record { is = ap (declared_of limit ws t us) is ∙ types_go limit ws us (part_equal us (decl_part us ends)) ∙ ap (λ z. Ok (map (type_decl z.0) ws, z.1)) (plus_stops us (part_plus us (decl_part us ends))) }
+    record { is = ap (decls_of_kind limit ws t us) is ∙ types_go limit ws us (part_equal us (decl_part us ends)) ∙ ap (λ z. Ok (map (type_decl z.0) ws, z.1)) (plus_stops us (part_plus us (decl_part us ends))) }
 declares_types limit _ _ (DerivesTypeWord.type_plus t u is sign) ws us ends =
-    record { is = ap (declared_of limit ws t (u ∷ us)) is ∙ types_go limit ws (u ∷ us) (plus_equal u us sign) ∙ ap (λ z. Ok (map (type_decl z.0) ws, z.1)) (plus_goes u us sign) }
-declares_types limit _ _ (DerivesTypeWord.nonempty_type t is) ws us ends = record { is = ap (declared_of limit ws t us) is }
+    record { is = ap (decls_of_kind limit ws t (u ∷ us)) is ∙ types_go limit ws (u ∷ us) (plus_equal u us sign) ∙ ap (λ z. Ok (map (type_decl z.0) ws, z.1)) (plus_goes u us sign) }
+declares_types limit _ _ (DerivesTypeWord.nonempty_type t is) ws us ends = record { is = ap (decls_of_kind limit ws t us) is }
 
 variables_go : (limit : Limit) (ws : List Word) (ts : Tokens) (a : TypeExpr) (m : Nesting) → Derives limit type_ outermost ts a m → (us : Tokens) → DeclEnds us → Gets (variables limit ws (ts ++ us)) (map (var_decl a) ws, us)
 variables_go limit ws ts a m d us ends = then_ _ (type_complete limit outermost ts a (m, d) (ts ++ us) us both (part_whole us (decl_part us ends)).1) found
@@ -65,7 +65,7 @@ constant_goes : (limit : Limit) (w : Word) (bs : List Binding) (ts vs : Tokens) 
 constant_goes limit w bs ts vs a m x d e all us s ends = then_ _ (type_complete limit outermost ts a (m, d) all (vs ++ us) s (body_stops limit vs x e us ends)) (then_ _ (body_goes limit vs x e us ends) found)
 
 -- the first terminal of a type, behind names and a colon
-declared_type : (limit : Limit) (ws : List Word) (t : Terminal) (ts : Tokens) (k : TerminalKind) → starts_type k ≡ true → declared_of limit ws t ts k ≡ constants limit ws (t ∷ ts)
+declared_type : (limit : Limit) (ws : List Word) (t : Terminal) (ts : Tokens) (k : TerminalKind) → starts_type k ≡ true → decls_of_kind limit ws t ts k ≡ constants limit ws (t ∷ ts)
 declared_type limit ws t ts kind.Type e = cc
 declared_type limit ws t ts kind.NonemptyType e = cc
 declared_type limit ws t ts kind.Var e = cc
@@ -86,9 +86,9 @@ constants_go limit [] ts a m d us ends = then_ _ (type_complete limit outermost 
 constants_go limit (w ∷ []) ts a m d us ends = constant_goes limit w [] ts [] a m None d DerivesBody.none (ts ++ us) us both ends
 constants_go limit (w ∷ v ∷ ws) ts a m d us ends = then_ _ (type_complete limit outermost ts a (m, d) (ts ++ us) us both (part_whole us (decl_part us ends)).1) found
 
-declared_formula : (limit : Limit) (ws : List Word) (t : Terminal) (ts : Tokens) (f : FormulaWord) (k : TerminalKind) → formula_of k ≡ Some f → declared_of limit ws t ts k ≡ stated limit ws t ts (Some f)
-declared_formula limit ws t ts f kind.Axiom e = ap (stated limit ws t ts) e
-declared_formula limit ws t ts f kind.Lemma e = ap (stated limit ws t ts) e
+declared_formula : (limit : Limit) (ws : List Word) (t : Terminal) (ts : Tokens) (f : FormulaWord) (k : TerminalKind) → formula_of k ≡ Some f → decls_of_kind limit ws t ts k ≡ formulas_or_constants limit ws t ts (Some f)
+declared_formula limit ws t ts f kind.Axiom e = ap (formulas_or_constants limit ws t ts) e
+declared_formula limit ws t ts f kind.Lemma e = ap (formulas_or_constants limit ws t ts) e
 declared_formula limit ws t ts f _ e = cc
 
 formula_goes : (limit : Limit) (w : Word) (f : FormulaWord) (ts : Tokens) (x : Expr) → IsExpr limit ts x → (us : Tokens) → DeclEnds us → Gets (formula limit w f (ts ++ us)) (decl.Formula w f x ∷ [], us)
@@ -98,7 +98,7 @@ formula_goes limit w f ts x d us ends = then_ _ (expr_complete limit ts x d (ts 
 
 -- names, a colon and what they are
 named_goes : (limit : Limit) → IsBelow limit 0 → (ns : Tokens) (ws : List Word) → DerivesIds limit ns ws → (u : Terminal) → Is kind.Colon u → (all vs : Tokens) → Splits all ns (u ∷ vs) → (ds : List Decl) (us : Tokens) → Declares limit ws vs ds us
-    → Gets (named limit all) (ds, us)
+    → Gets (declaration_of_names limit all) (ds, us)
 named_goes limit some ns ws d u colon all vs s ds us g = then_ _ (ids_complete limit some ns ws d all (u ∷ vs) s (colon_comma u vs colon)) (takes kind.Colon u vs _ colon g)
 
 declaration_goes : (limit : Limit) → IsBelow limit 0 → (ns : Tokens) (ws : List Word) → DerivesIds limit ns ws → (u : Terminal) → Is kind.Colon u → (all vs : Tokens) → Splits all ns (u ∷ vs) → (ds : List Decl) (us : Tokens) → Declares limit ws vs ds us
@@ -106,7 +106,7 @@ declaration_goes : (limit : Limit) → IsBelow limit 0 → (ns : Tokens) (ws : L
 declaration_goes limit some ns ws d u colon all vs s ds us g =
     let b = ids_front limit ns ws d in
     let e : all ≡ b.0 ∷ (b.1 ++ u ∷ vs) = s.same ∙ ap (λ z. z ++ u ∷ vs) b.2 in
-    let h : Gets (named limit (b.0 ∷ (b.1 ++ u ∷ vs))) (ds, us) = subst (λ z. Gets (named limit z) (ds, us)) e (named_goes limit some ns ws d u colon all vs s ds us g) in
+    let h : Gets (declaration_of_names limit (b.0 ∷ (b.1 ++ u ∷ vs))) (ds, us) = subst (λ z. Gets (declaration_of_names limit z) (ds, us)) e (named_goes limit some ns ws d u colon all vs s ds us g) in
     subst (λ z. Gets (declaration limit z) (ds, us)) (sym e)
     (absent _ (id_importing b.0 (b.1 ++ u ∷ vs) b.3) (names b.0 (b.1 ++ u ∷ vs) _ b.3 (absent _ (b.4 (u ∷ vs) (colon_open u vs colon)) h)))
 
@@ -130,13 +130,13 @@ declaration_complete limit some _ _ (DerivesDecl.types ts vs ws nonempty t d col
     declaration_goes limit some ts ws d t colon ((ts ++ t ∷ vs) ++ us) (vs ++ us) (unglue ts (t ∷ vs) both) (map (type_decl nonempty) ws) us (declares_types limit vs nonempty e ws us ends)
 declaration_complete limit some _ _ (DerivesDecl.variables _ _ (DerivesVariables.variables ts vs ws a m t u d colon var e)) us ends =
     declaration_goes limit some ts ws d t colon ((ts ++ t ∷ u ∷ vs) ++ us) (u ∷ (vs ++ us)) (unglue ts (t ∷ u ∷ vs) both) (map (var_decl a) ws) us
-    (same (ap (declared_of limit ws u (vs ++ us)) var) (variables_go limit ws vs a m e us ends))
+    (same (ap (decls_of_kind limit ws u (vs ++ us)) var) (variables_go limit ws vs a m e us ends))
 declaration_complete limit some _ _ (DerivesDecl.constants ts vs ws a m t d colon e) us ends =
     declaration_goes limit some ts ws d t colon ((ts ++ t ∷ vs) ++ us) (vs ++ us) (unglue ts (t ∷ vs) both) (map (const_decl a) ws) us
     (declares_type limit ws vs a m e (vs ++ us) us both (map (const_decl a) ws) us (constants_go limit ws vs a m e us ends))
 declaration_complete limit some _ _ (DerivesDecl.type_definition ts a m t u v w is colon type equal d) us ends =
     declaration_goes limit some (t ∷ []) (t.word ∷ []) (DerivesIds.one t is) u colon (t ∷ u ∷ v ∷ w ∷ (ts ++ us)) (v ∷ w ∷ (ts ++ us)) both (decl.TypeDef t.word a ∷ []) us
-    (same (ap (declared_of limit (t.word ∷ []) v (w ∷ (ts ++ us))) type)
+    (same (ap (decls_of_kind limit (t.word ∷ []) v (w ∷ (ts ++ us))) type)
     (there _ _ (after_is kind.Equal w (ts ++ us) equal) (then_ _ (type_complete limit outermost ts a (m, d) (ts ++ us) us both (part_whole us (decl_part us ends)).1) found)))
 declaration_complete limit some _ _ (DerivesDecl.constant ps ts vs bs a x m t u is b colon d e) us ends =
     subst (λ z. Gets (declaration limit (t ∷ z)) (decl.ConstDecl t.word bs a x ∷ [], us)) (sym (append_assoc ps (u ∷ (ts ++ vs)) us ∙ ap (λ z. ps ++ u ∷ z) (append_assoc ts vs us)))
@@ -148,22 +148,22 @@ declaration_complete limit some _ _ (DerivesDecl.formula e ts x w m t u v is col
 -- ---- one declaration of an assuming part
 
 assumed_goes : (limit : Limit) → IsBelow limit 0 → (ns : Tokens) (ws : List Word) → DerivesIds limit ns ws → (u : Terminal) → Is kind.Colon u → (all vs : Tokens) → Splits all ns (u ∷ vs) → (ds : List Decl) (us : Tokens)
-    → Gets (assumed_after limit ws vs) (ds, us) → Gets (assumed limit all) (ds, us)
+    → Gets (assuming_decls_after_colon limit ws vs) (ds, us) → Gets (assuming_decl limit all) (ds, us)
 assumed_goes limit some ns ws d u colon all vs s ds us g =
     let b = ids_front limit ns ws d in
     let e : all ≡ b.0 ∷ (b.1 ++ u ∷ vs) = s.same ∙ ap (λ z. z ++ u ∷ vs) b.2 in
     absent _ (ap (after kind.Importing) e ∙ id_importing b.0 (b.1 ++ u ∷ vs) b.3) (then_ _ (ids_complete limit some ns ws d all (u ∷ vs) s (colon_comma u vs colon)) (takes kind.Colon u vs _ colon g))
 
-pub assumed_complete : (limit : Limit) → IsBelow limit 0 → (ts : Tokens) (ds : List Decl) → DerivesAssumed limit ts ds → (us : Tokens) → DeclEnds us → Gets (assumed limit (ts ++ us)) (ds, us)
+pub assumed_complete : (limit : Limit) → IsBelow limit 0 → (ts : Tokens) (ds : List Decl) → DerivesAssumed limit ts ds → (us : Tokens) → DeclEnds us → Gets (assuming_decl limit (ts ++ us)) (ds, us)
 assumed_complete limit some _ _ (DerivesAssumed.importing ts ds d) us ends =
     let b = importing_complete limit ts ds d us ends in
-    subst (λ z. Gets (assumed limit (z ++ us)) (ds, us)) (sym b.2) (there _ _ (after_is kind.Importing b.0 (b.1 ++ us) b.3) b.4)
+    subst (λ z. Gets (assuming_decl limit (z ++ us)) (ds, us)) (sym b.2) (there _ _ (after_is kind.Importing b.0 (b.1 ++ us) b.3) b.4)
 assumed_complete limit some _ _ (DerivesAssumed.variables _ _ (DerivesVariables.variables ts vs ws a m t u d colon var e)) us ends =
     assumed_goes limit some ts ws d t colon ((ts ++ t ∷ u ∷ vs) ++ us) (u ∷ (vs ++ us)) (unglue ts (t ∷ u ∷ vs) both) (map (var_decl a) ws) us
-    (same (ap (assumed_of limit ws u (vs ++ us)) var) (variables_go limit ws vs a m e us ends))
+    (same (ap (assuming_decls_of_kind limit ws u (vs ++ us)) var) (variables_go limit ws vs a m e us ends))
 assumed_complete limit some _ _ (DerivesAssumed.assumption_of e ts x m t u v is colon word d) us ends =
     assumed_goes limit some (t ∷ []) (t.word ∷ []) (DerivesIds.one t is) u colon (t ∷ u ∷ v ∷ (ts ++ us)) (v ∷ (ts ++ us)) both (decl.Formula t.word formula_word.Assumption x ∷ []) us
-    (same (ap (assumed_of limit (t.word ∷ []) v (ts ++ us)) word) (formula_goes limit t.word formula_word.Assumption ts x (e, m, d) us ends))
+    (same (ap (assuming_decls_of_kind limit (t.word ∷ []) v (ts ++ us)) word) (formula_goes limit t.word formula_word.Assumption ts x (e, m, d) us ends))
 
 -- ---- how a declaration begins
 

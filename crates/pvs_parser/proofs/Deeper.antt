@@ -9,7 +9,7 @@ use Rattle.pvs_syntax.specs.declared.expression.Binding.{Binding}
 use Rattle.pvs_syntax.specs.declared.expression.Expr.{Expr}
 use Rattle.pvs_syntax.specs.declared.expression.TypeExpr.{TypeExpr}
 use Rattle.pvs_parser.specs.Terminals.{Is}
-use Rattle.pvs_parser.specs.Language.{Limit, Tokens, HasRoom, Derives, Ending, Item, ItemTree, list, type_, whole, outermost, inside}
+use Rattle.pvs_parser.specs.Language.{Limit, Tokens, HasRoom, Derives, Ending, Item, ItemTree, list, type_, whole, outermost, in_frame}
 use Rattle.pvs_parser.specs.Descent.{framed_with}
 use Rattle.pvs_parser.specs.UnitDescent.{whole_reader, expr, type}
 use Rattle.pvs_parser.proofs.Follows.{pull_of, Ends}
@@ -30,7 +30,7 @@ IsType limit l ts a = (m : Nesting) × Derives limit type_ l ts a m
 
 -- a list in a frame, and the sign that ends it
 abbrev pub IsFramed : Limit → (i : Item) → TerminalKind → Tokens → List (ItemTree i) → Type 0
-IsFramed limit i end ts xs = (vs : Tokens) × (u : Terminal) × (k : Nesting) × (ts ≡ vs ++ u ∷ []) × HasRoom limit outermost × Derives limit (list i) (inside outermost) vs xs k × Is end u
+IsFramed limit i end ts xs = (vs : Tokens) × (u : Terminal) × (k : Nesting) × (ts ≡ vs ++ u ∷ []) × HasRoom limit outermost × Derives limit (list i) (in_frame outermost) vs xs k × Is end u
 
 pub expr_sound : (limit : Limit) (ts : Tokens) → Yields (expr limit ts) (Fore (IsExpr limit) ts)
 expr_sound limit ts = bind (read_expr_sound limit (length ts + 1) outermost ts) (λ p f. here (f.1, f.2, (f.0, p.1, f.3)))
@@ -54,10 +54,10 @@ expr_complete limit ts x d all us s ends = then_ _ (read_expr_complete limit (le
 pub type_complete : (limit : Limit) (l : Nesting) (ts : Tokens) (a : TypeExpr) → IsType limit l ts a → (all us : Tokens) → Splits all ts us → Ends us → Gets (type limit l all) (a, us)
 type_complete limit l ts a d all us s ends = then_ _ (read_type_complete limit (length all + 1) l ts a d.0 d.1 (shorter s) all us s ends) found
 
-pub bindings_complete : (limit : Limit) (ts : Tokens) (bs : List Binding) (k : Nesting) (u : Terminal) → HasRoom limit outermost → Derives limit (list Item.Variable) (inside outermost) ts bs k → Is kind.Close u
+pub bindings_complete : (limit : Limit) (ts : Tokens) (bs : List Binding) (k : Nesting) (u : Terminal) → HasRoom limit outermost → Derives limit (list Item.Variable) (in_frame outermost) ts bs k → Is kind.Close u
     → (all us : Tokens) → Splits all ts (u ∷ us) → Gets (framed_with (whole_reader limit all) Item.Variable kind.Close outermost all) (bs, us)
 bindings_complete limit ts bs k u lt d is all us s = read_bindings_complete limit (length all + 1) outermost k ts bs u lt d is (shorter s) all us s
 
-pub actuals_complete : (limit : Limit) (ts : Tokens) (xs : List Actual) (k : Nesting) (u : Terminal) → HasRoom limit outermost → Derives limit (list Item.Parameter) (inside outermost) ts xs k → Is kind.CloseBracket u
+pub actuals_complete : (limit : Limit) (ts : Tokens) (xs : List Actual) (k : Nesting) (u : Terminal) → HasRoom limit outermost → Derives limit (list Item.Parameter) (in_frame outermost) ts xs k → Is kind.CloseBracket u
     → (all us : Tokens) → Splits all ts (u ∷ us) → Gets (framed_with (whole_reader limit all) Item.Parameter kind.CloseBracket outermost all) (xs, us)
 actuals_complete limit ts xs k u lt d is all us s = read_actuals_complete limit (length all + 1) outermost k ts xs u lt d is (shorter s) all us s

@@ -13,7 +13,7 @@ use Rattle.pvs_syntax.specs.declared.word.Word.{Word}
 use Rattle.pvs_syntax.specs.declared.expression.InfixWord.{InfixWord}
 use Rattle.pvs_parser.specs.Terminals.{Is, IsId, is_id, same_kind}
 use Rattle.pvs_parser.specs.Language.{Tokens, Limit, IsBelow, HasRoom, level, comparison}
-use Rattle.pvs_parser.specs.Descent.{Answer, either, stop, after, expect, id, number, compares, compares_of, is_below, with_room, too_deep, entries, prefix, begins, begins_of, labels, labels_of}
+use Rattle.pvs_parser.specs.Descent.{Answer, either, stop, after, expect, id, number, compares, compares_of, is_below, with_room, too_deep, entries, prefix, begins, begins_of, label, label_of}
 use Rattle.pvs_base.specs.Answers.{◌>>=◌}
 use Rattle.pvs_parser.proofs.Yields.{Yields, Finds, here, it, none, missing}
 
@@ -83,15 +83,15 @@ id_bind (t ∷ ts) f {Q = Q} g = id_bind_one t ts f Q (λ is. g t ts refl is) (i
 abbrev pub Labels : Tokens → Word × Tokens → Type 0
 Labels ts p = (t : Terminal) × (u : Terminal) × (ts ≡ t ∷ u ∷ p.1) × IsId t × Is kind.Colon u × (t.word ≡ p.0)
 
-labels_of_one : (t : Terminal) (ts : Tokens) → IsId t → (o : Option Tokens) → Finds o (λ us. Comes kind.Colon ts us) → Finds (labels_of t.word o) (Labels (t ∷ ts))
+labels_of_one : (t : Terminal) (ts : Tokens) → IsId t → (o : Option Tokens) → Finds o (λ us. Comes kind.Colon ts us) → Finds (label_of t.word o) (Labels (t ∷ ts))
 labels_of_one t ts is (Some us) f = let c = f.holds us refl in it (t, c.0, ap (λ z. t ∷ z) c.1, is, c.2, refl)
 labels_of_one t ts is None f = missing
 
-labels_one : (t : Terminal) (ts : Tokens) (b : Bool) → is_id t.kind ≡ b → Finds (if b then labels_of t.word (after kind.Colon ts) else None) (Labels (t ∷ ts))
+labels_one : (t : Terminal) (ts : Tokens) (b : Bool) → is_id t.kind ≡ b → Finds (if b then label_of t.word (after kind.Colon ts) else None) (Labels (t ∷ ts))
 labels_one t ts true is = labels_of_one t ts is (after kind.Colon ts) (after_yields kind.Colon ts)
 labels_one t ts false is = missing
 
-pub labels_yields : (ts : Tokens) → Finds (labels ts) (Labels ts)
+pub labels_yields : (ts : Tokens) → Finds (label ts) (Labels ts)
 labels_yields [] = missing
 labels_yields (t ∷ ts) = labels_one t ts (is_id t.kind) refl
 

@@ -8,10 +8,10 @@ use Rattle.pvs_parser.specs.declared.failure.Stop.{Stop}
 use Rattle.pvs_parser.specs.declared.terminal.Terminal.{Terminal}
 use Rattle.pvs_parser.specs.declared.terminal.TerminalKind.TheVariants as kind
 use Rattle.pvs_parser.specs.Terminals.{Is, IsId}
-use Rattle.pvs_parser.specs.Language.{Tokens, Limit, bounded}
+use Rattle.pvs_parser.specs.Language.{Tokens, Limit, language_limit}
 use Rattle.pvs_parser.specs.Descent.{Answer}
-use Rattle.pvs_parser.specs.Faults.{code_of, Begins, IsWithin, IsWhy, FaultBehind, IsFirst}
-use Rattle.pvs_parser.specs.Reading.{judged, unless_fault, fault_of, fault_at}
+use Rattle.pvs_parser.specs.Faults.{code_of, Begins, IsViablePrefix, IsReason, IsFaultAfter, IsFirstFaultIn}
+use Rattle.pvs_parser.specs.Reading.{tree_or_fault, unless_fault, fault_of, fault_at}
 use Rattle.pvs_parser.specs.Text.{Terminals}
 use Rattle.pvs_parser.proofs.Cuts.{Cut, Agrees}
 use Rattle.pvs_parser.proofs.Locality.{Paired}
@@ -45,25 +45,25 @@ begins_front : (D : Limit → Tokens → Type 0) (limit : Limit) (us vs : Tokens
 begins_front D limit us vs b = (vs ++ b.0, subst (λ z. D limit z) (append_assoc us vs b.0) b.1)
 
 -- what is within the bounds was so before
-within_parts : (D : Limit → Tokens → Type 0) (us vs ws : Tokens) (t : Terminal) → Is kind.Comma t → Begins D bounded ws → Begins D None (us ++ vs) → Parts us vs ws (t ∷ []) → IsWithin D us
-within_parts D us vs ws t is b n (Parts.same e f) = IsWithin.begins (subst (λ z. Begins D bounded z) (sym e) b)
-within_parts D us vs ws t is b n (Parts.shorter w zs e f) = IsWithin.begins (begins_front D bounded us (w ∷ zs) (subst (λ z. Begins D bounded z) e b))
-within_parts D us [] ws t is b n (Parts.longer w [] e f) = IsWithin.comma ws t (let h = heads_same t w [] [] f in e ∙ ap (λ z. ws ++ z ∷ []) (sym h.0)) is b (subst (λ z. Begins D None z) (append-nil us) n)
+within_parts : (D : Limit → Tokens → Type 0) (us vs ws : Tokens) (t : Terminal) → Is kind.Comma t → Begins D language_limit ws → Begins D None (us ++ vs) → Parts us vs ws (t ∷ []) → IsViablePrefix D us
+within_parts D us vs ws t is b n (Parts.same e f) = IsViablePrefix.begins (subst (λ z. Begins D language_limit z) (sym e) b)
+within_parts D us vs ws t is b n (Parts.shorter w zs e f) = IsViablePrefix.begins (begins_front D language_limit us (w ∷ zs) (subst (λ z. Begins D language_limit z) e b))
+within_parts D us [] ws t is b n (Parts.longer w [] e f) = IsViablePrefix.comma ws t (let h = heads_same t w [] [] f in e ∙ ap (λ z. ws ++ z ∷ []) (sym h.0)) is b (subst (λ z. Begins D None z) (append-nil us) n)
 within_parts D us (v ∷ vs) ws t is b n (Parts.longer w [] e f) = cc
 within_parts D us vs ws t is b n (Parts.longer w (z ∷ zs) e f) = cc
 
-pub within_front : (D : Limit → Tokens → Type 0) (us vs : Tokens) → IsWithin D (us ++ vs) → IsWithin D us
-within_front D us vs (IsWithin.begins b) = IsWithin.begins (begins_front D bounded us vs b)
-within_front D us vs (IsWithin.comma ws t e is b n) = within_parts D us vs ws t is b n (parts us vs ws (t ∷ []) e)
+pub within_front : (D : Limit → Tokens → Type 0) (us vs : Tokens) → IsViablePrefix D (us ++ vs) → IsViablePrefix D us
+within_front D us vs (IsViablePrefix.begins b) = IsViablePrefix.begins (begins_front D language_limit us vs b)
+within_front D us vs (IsViablePrefix.comma ws t e is b n) = within_parts D us vs ws t is b n (parts us vs ws (t ∷ []) e)
 
 -- what is within the bounds begins something without them
-within_free : (D : Limit → Tokens → Type 0) → ((ts : Tokens) → D bounded ts → D None ts) → (ts : Tokens) → IsWithin D ts → Begins D None ts
-within_free D wider ts (IsWithin.begins b) = (b.0, wider (ts ++ b.0) b.1)
-within_free D wider ts (IsWithin.comma us t e is b n) = n
+within_free : (D : Limit → Tokens → Type 0) → ((ts : Tokens) → D language_limit ts → D None ts) → (ts : Tokens) → IsViablePrefix D ts → Begins D None ts
+within_free D wider ts (IsViablePrefix.begins b) = (b.0, wider (ts ++ b.0) b.1)
+within_free D wider ts (IsViablePrefix.comma us t e is b n) = n
 
 -- ---- at most one fault
 
-one_why : (D : Limit → Tokens → Type 0) (E : Tokens → Type 0) (before : Tokens) (t : Terminal) (a b : Reason) → IsWhy D E before t a → IsWhy D E before t b → a ≡ b
+one_why : (D : Limit → Tokens → Type 0) (E : Tokens → Type 0) (before : Tokens) (t : Terminal) (a b : Reason) → IsReason D E before t a → IsReason D E before t b → a ≡ b
 one_why D E before t reason.TooNested reason.TooNested f g = refl
 one_why D E before t reason.WrongEnd reason.WrongEnd f g = refl
 one_why D E before t reason.Unexpected reason.Unexpected f g = refl
@@ -74,35 +74,35 @@ one_why D E before t reason.Unexpected reason.TooNested f g = absurd (f.0 g)
 one_why D E before t reason.WrongEnd reason.Unexpected f g = absurd (g.1 f.1 f.2)
 one_why D E before t reason.Unexpected reason.WrongEnd f g = absurd (f.1 g.1 g.2)
 
-one_behind : (D : Limit → Tokens → Type 0) (E : Tokens → Type 0) (end : Pos) (fault : Option Fault) (ts before rest : Tokens) (f g : Fault) → FaultBehind D E end fault ts before rest f → FaultBehind D E end fault ts before rest g → f ≡ g
+one_behind : (D : Limit → Tokens → Type 0) (E : Tokens → Type 0) (end : Pos) (fault : Option Fault) (ts before rest : Tokens) (f g : Fault) → IsFaultAfter D E end fault ts before rest f → IsFaultAfter D E end fault ts before rest g → f ≡ g
 one_behind D E end fault ts before [] f g h k = h.0 ∙ sym k.0
 one_behind D E end fault ts before (t ∷ rest) f g h k =
     h.3 ∙ ap (λ z. record { pos = t.word.pos; code = code_of ts (length before) t.kind z }) (one_why D E before t h.1 k.1 h.2 k.2) ∙ sym k.3
 
 -- a token behind tokens is refused, and tokens that begin so are within the bounds
-refused : (D : Limit → Tokens → Type 0) (E : Tokens → Type 0) (end : Pos) (fault : Option Fault) (ts before rest us zs : Tokens) (f : Fault) (t : Terminal) → FaultBehind D E end fault ts before rest f → rest ≡ t ∷ us → IsWithin D (before ++ t ∷ zs) → ⊥
+refused : (D : Limit → Tokens → Type 0) (E : Tokens → Type 0) (end : Pos) (fault : Option Fault) (ts before rest us zs : Tokens) (f : Fault) (t : Terminal) → IsFaultAfter D E end fault ts before rest f → rest ≡ t ∷ us → IsViablePrefix D (before ++ t ∷ zs) → ⊥
 refused D E end fault ts before [] us zs f t h e w = cc
 refused D E end fault ts before (v ∷ rest) us zs f t h e w =
     let s = heads_same v t rest us e in
-    h.0 (within_front D (before ++ v ∷ []) zs (subst (λ z. IsWithin D z) (ap (λ z. before ++ z ∷ zs) (sym s.0) ∙ sym (append_assoc before (v ∷ []) zs)) w))
+    h.0 (within_front D (before ++ v ∷ []) zs (subst (λ z. IsViablePrefix D z) (ap (λ z. before ++ z ∷ zs) (sym s.0) ∙ sym (append_assoc before (v ∷ []) zs)) w))
 
-one_parts : (D : Limit → Tokens → Type 0) (E : Tokens → Type 0) (end : Pos) (fault : Option Fault) (ts : Tokens) (f g : Fault) (a : IsFirst D E end fault ts f) (b : IsFirst D E end fault ts g) → Parts a.before a.rest b.before b.rest → f ≡ g
+one_parts : (D : Limit → Tokens → Type 0) (E : Tokens → Type 0) (end : Pos) (fault : Option Fault) (ts : Tokens) (f g : Fault) (a : IsFirstFaultIn D E end fault ts f) (b : IsFirstFaultIn D E end fault ts g) → Parts a.before a.rest b.before b.rest → f ≡ g
 one_parts D E end fault ts f g a b (Parts.same e e2) =
-    one_behind D E end fault ts b.before b.rest f g (subst (λ z. FaultBehind D E end fault ts b.before z f) e2 (subst (λ z. FaultBehind D E end fault ts z a.rest f) e a.behind)) b.behind
-one_parts D E end fault ts f g a b (Parts.shorter t zs e e2) = absurd (refused D E end fault ts a.before a.rest (zs ++ b.rest) zs f t a.behind e2 (subst (λ z. IsWithin D z) e b.within))
-one_parts D E end fault ts f g a b (Parts.longer t zs e e2) = absurd (refused D E end fault ts b.before b.rest (zs ++ a.rest) zs g t b.behind e2 (subst (λ z. IsWithin D z) e a.within))
+    one_behind D E end fault ts b.before b.rest f g (subst (λ z. IsFaultAfter D E end fault ts b.before z f) e2 (subst (λ z. IsFaultAfter D E end fault ts z a.rest f) e a.fault_after)) b.fault_after
+one_parts D E end fault ts f g a b (Parts.shorter t zs e e2) = absurd (refused D E end fault ts a.before a.rest (zs ++ b.rest) zs f t a.fault_after e2 (subst (λ z. IsViablePrefix D z) e b.within))
+one_parts D E end fault ts f g a b (Parts.longer t zs e e2) = absurd (refused D E end fault ts b.before b.rest (zs ++ a.rest) zs g t b.fault_after e2 (subst (λ z. IsViablePrefix D z) e a.within))
 
-pub one_first : (D : Limit → Tokens → Type 0) (E : Tokens → Type 0) (end : Pos) (fault : Option Fault) (ts : Tokens) (f g : Fault) → IsFirst D E end fault ts f → IsFirst D E end fault ts g → f ≡ g
+pub one_first : (D : Limit → Tokens → Type 0) (E : Tokens → Type 0) (end : Pos) (fault : Option Fault) (ts : Tokens) (f g : Fault) → IsFirstFaultIn D E end fault ts f → IsFirstFaultIn D E end fault ts g → f ≡ g
 one_first D E end fault ts f g a b = one_parts D E end fault ts f g a b (parts a.before a.rest b.before b.rest (sym a.split ∙ b.split))
 
 -- what is read whole has no fault
-no_behind : (D : Limit → Tokens → Type 0) (E : Tokens → Type 0) (end : Pos) (fault : Option Fault) (ts before rest : Tokens) (f : Fault) → fault ≡ None → D bounded ts → ts ≡ before ++ rest → FaultBehind D E end fault ts before rest f → ⊥
+no_behind : (D : Limit → Tokens → Type 0) (E : Tokens → Type 0) (end : Pos) (fault : Option Fault) (ts before rest : Tokens) (f : Fault) → fault ≡ None → D language_limit ts → ts ≡ before ++ rest → IsFaultAfter D E end fault ts before rest f → ⊥
 no_behind D E end fault ts before [] f none d e h = h.1 none d
 no_behind D E end fault ts before (t ∷ rest) f none d e h =
-    h.0 (IsWithin.begins (rest, subst (λ z. D bounded z) (e ∙ sym (append_assoc before (t ∷ []) rest)) d))
+    h.0 (IsViablePrefix.begins (rest, subst (λ z. D language_limit z) (e ∙ sym (append_assoc before (t ∷ []) rest)) d))
 
-pub no_first : (D : Limit → Tokens → Type 0) (E : Tokens → Type 0) (end : Pos) (fault : Option Fault) (ts : Tokens) (f : Fault) → fault ≡ None → D bounded ts → IsFirst D E end fault ts f → ⊥
-no_first D E end fault ts f none d a = no_behind D E end fault ts a.before a.rest f none d a.split a.behind
+pub no_first : (D : Limit → Tokens → Type 0) (E : Tokens → Type 0) (end : Pos) (fault : Option Fault) (ts : Tokens) (f : Fault) → fault ≡ None → D language_limit ts → IsFirstFaultIn D E end fault ts f → ⊥
+no_first D E end fault ts f none d a = no_behind D E end fault ts a.before a.rest f none d a.split a.fault_after
 
 -- ---- where reading stops
 
@@ -117,24 +117,24 @@ pub record HaltsAt (D : Limit → Tokens → Type 0) (E : Tokens → Type 0) (ts
   pub rest : Tokens
   pub split : ts ≡ before ++ rest
   pub left : length rest ≡ e.left
-  pub within : IsWithin D before
+  pub within : IsViablePrefix D before
   pub why : HaltWhy D E before rest e.reason
 
 -- a way of reading what is in the grammar
 pub record Reading {A : Type 0} (D : Limit → Tokens → Type 0) (E : Tokens → Type 0) (read : Limit → Tokens → Answer A) : Type 0 where
-  pub wider : (ts : Tokens) → D bounded ts → D None ts
-  pub sound : (ts : Tokens) (x : A) → read bounded ts ≡ Ok x → D bounded ts
-  pub complete : (ts : Tokens) → D bounded ts → (x : A) × (read bounded ts ≡ Ok x)
+  pub wider : (ts : Tokens) → D language_limit ts → D None ts
+  pub sound : (ts : Tokens) (x : A) → read language_limit ts ≡ Ok x → D language_limit ts
+  pub complete : (ts : Tokens) → D language_limit ts → (x : A) × (read language_limit ts ≡ Ok x)
   pub free : (ts : Tokens) → D None ts → (x : A) × (read None ts ≡ Ok x)
   pub local : (cut : Cut) (a b : Limit) → Paired cut a b → (q : Tokens) → Agrees cut alone (length q) (read a (q ++ cut.here)) (read b (q ++ cut.there))
-  pub halts : (ts : Tokens) (e : Stop) → read bounded ts ≡ Err e → HaltsAt D E ts e
+  pub halts : (ts : Tokens) (e : Stop) → read language_limit ts ≡ Err e → HaltsAt D E ts e
 
 -- that a text nests too deep is excused, or nothing is
 nested : Reason → Bool
 nested reason.TooNested = true
 nested _ = false
 
-paired_free : (here there : Tokens) → Paired (record { here = here; there = there; excused = nested }) bounded None
+paired_free : (here there : Tokens) → Paired (record { here = here; there = there; excused = nested }) language_limit None
 unfolding nested
 paired_free here there = record {
   rooms = record { wider = λ n e. refl; tight = λ n e. inl refl };
@@ -145,7 +145,7 @@ paired_free here there = record {
 nothing_excused : Reason → Bool
 nothing_excused why = false
 
-paired_same : (here there : Tokens) → Paired (record { here = here; there = there; excused = nothing_excused }) bounded bounded
+paired_same : (here there : Tokens) → Paired (record { here = here; there = there; excused = nothing_excused }) language_limit language_limit
 paired_same here there = record {
   rooms = record { wider = λ n e. e; tight = λ n e. inr e };
   lists = (200, refl, inl refl);
@@ -168,22 +168,22 @@ pushed : (ts before rest more : Tokens) (t : Terminal) → ts ≡ before ++ rest
 pushed ts before rest more t e f = e ∙ ap (λ z. before ++ z) f ∙ sym (append_assoc before (t ∷ []) more)
 
 -- without the bounds the token could not stand there, or it nests too deep
-not_free : {A : Type 0} (D : Limit → Tokens → Type 0) (E : Tokens → Type 0) (read : Limit → Tokens → Answer A) → Reading D E read → (ts before rest more : Tokens) (t : Terminal) (e : Stop) → ts ≡ before ++ rest → rest ≡ t ∷ more → length rest ≡ e.left → read bounded ts ≡ Err e
+not_free : {A : Type 0} (D : Limit → Tokens → Type 0) (E : Tokens → Type 0) (read : Limit → Tokens → Answer A) → Reading D E read → (ts before rest more : Tokens) (t : Terminal) (e : Stop) → ts ≡ before ++ rest → rest ≡ t ∷ more → length rest ≡ e.left → read language_limit ts ≡ Err e
     → Begins D None (before ++ t ∷ []) → nested e.reason ≡ true
 not_free D E read r ts before rest more t e split f left stop b =
     let x = r.free ((before ++ t ∷ []) ++ b.0) b.1 in
-    not_read (record { here = more; there = b.0; excused = nested }) (length (before ++ t ∷ [])) e x.0 (read bounded ((before ++ t ∷ []) ++ more)) (read None ((before ++ t ∷ []) ++ b.0))
-    (ap (read bounded) (sym (pushed ts before rest more t split f)) ∙ stop) x.1 (left_more rest more t e.left f left)
-    (r.local (record { here = more; there = b.0; excused = nested }) bounded None (paired_free more b.0) (before ++ t ∷ []))
+    not_read (record { here = more; there = b.0; excused = nested }) (length (before ++ t ∷ [])) e x.0 (read language_limit ((before ++ t ∷ []) ++ more)) (read None ((before ++ t ∷ []) ++ b.0))
+    (ap (read language_limit) (sym (pushed ts before rest more t split f)) ∙ stop) x.1 (left_more rest more t e.left f left)
+    (r.local (record { here = more; there = b.0; excused = nested }) language_limit None (paired_free more b.0) (before ++ t ∷ []))
 
 -- within the bounds the token could not stand there
-not_bounded : {A : Type 0} (D : Limit → Tokens → Type 0) (E : Tokens → Type 0) (read : Limit → Tokens → Answer A) → Reading D E read → (ts before rest more : Tokens) (t : Terminal) (e : Stop) → ts ≡ before ++ rest → rest ≡ t ∷ more → length rest ≡ e.left → read bounded ts ≡ Err e
-    → Begins D bounded (before ++ t ∷ []) → nothing_excused e.reason ≡ true
+not_bounded : {A : Type 0} (D : Limit → Tokens → Type 0) (E : Tokens → Type 0) (read : Limit → Tokens → Answer A) → Reading D E read → (ts before rest more : Tokens) (t : Terminal) (e : Stop) → ts ≡ before ++ rest → rest ≡ t ∷ more → length rest ≡ e.left → read language_limit ts ≡ Err e
+    → Begins D language_limit (before ++ t ∷ []) → nothing_excused e.reason ≡ true
 not_bounded D E read r ts before rest more t e split f left stop b =
     let x = r.complete ((before ++ t ∷ []) ++ b.0) b.1 in
-    not_read (record { here = more; there = b.0; excused = nothing_excused }) (length (before ++ t ∷ [])) e x.0 (read bounded ((before ++ t ∷ []) ++ more)) (read bounded ((before ++ t ∷ []) ++ b.0))
-    (ap (read bounded) (sym (pushed ts before rest more t split f)) ∙ stop) x.1 (left_more rest more t e.left f left)
-    (r.local (record { here = more; there = b.0; excused = nothing_excused }) bounded bounded (paired_same more b.0) (before ++ t ∷ []))
+    not_read (record { here = more; there = b.0; excused = nothing_excused }) (length (before ++ t ∷ [])) e x.0 (read language_limit ((before ++ t ∷ []) ++ more)) (read language_limit ((before ++ t ∷ []) ++ b.0))
+    (ap (read language_limit) (sym (pushed ts before rest more t split f)) ∙ stop) x.1 (left_more rest more t e.left f left)
+    (r.local (record { here = more; there = b.0; excused = nothing_excused }) language_limit language_limit (paired_same more b.0) (before ++ t ∷ []))
 
 none_excused : (why : Reason) → nothing_excused why ≡ true → ⊥
 unfolding nothing_excused
@@ -207,13 +207,13 @@ last_same (v ∷ us) [] t u e = absurd (too_long (ap length e)) where
 last_same (v ∷ us) (w ∷ vs) t u e = let h = heads_same v w (us ++ t ∷ []) (vs ++ u ∷ []) e in last_same us vs t u h.1
 
 -- with a token that is refused the tokens are not within the bounds
-not_within : (D : Limit → Tokens → Type 0) (before : Tokens) (t : Terminal) → (Begins D bounded (before ++ t ∷ []) → ⊥) → (t.kind ≡ kind.Comma → ⊥) → IsWithin D (before ++ t ∷ []) → ⊥
-not_within D before t never comma (IsWithin.begins b) = never b
-not_within D before t never comma (IsWithin.comma us u e is b n) = comma (let same = last_same before us t u e in ap (λ z. z.kind) same ∙ is)
+not_within : (D : Limit → Tokens → Type 0) (before : Tokens) (t : Terminal) → (Begins D language_limit (before ++ t ∷ []) → ⊥) → (t.kind ≡ kind.Comma → ⊥) → IsViablePrefix D (before ++ t ∷ []) → ⊥
+not_within D before t never comma (IsViablePrefix.begins b) = never b
+not_within D before t never comma (IsViablePrefix.comma us u e is b n) = comma (let same = last_same before us t u e in ap (λ z. z.kind) same ∙ is)
 
 -- the token where reading stops, by the reason
-refused_at : {A : Type 0} (D : Limit → Tokens → Type 0) (E : Tokens → Type 0) (read : Limit → Tokens → Answer A) → Reading D E read → (ts before rest more : Tokens) (t : Terminal) (e : Stop) → ts ≡ before ++ rest → rest ≡ t ∷ more → length rest ≡ e.left → read bounded ts ≡ Err e
-    → (why : Reason) → e.reason ≡ why → HaltWhy D E before rest why → (IsWithin D (before ++ t ∷ []) → ⊥) × IsWhy D E before t why
+refused_at : {A : Type 0} (D : Limit → Tokens → Type 0) (E : Tokens → Type 0) (read : Limit → Tokens → Answer A) → Reading D E read → (ts before rest more : Tokens) (t : Terminal) (e : Stop) → ts ≡ before ++ rest → rest ≡ t ∷ more → length rest ≡ e.left → read language_limit ts ≡ Err e
+    → (why : Reason) → e.reason ≡ why → HaltWhy D E before rest why → (IsViablePrefix D (before ++ t ∷ []) → ⊥) × IsReason D E before t why
 refused_at D E read r ts before rest more t e split f left stop reason.TooNested is h =
     let same = heads_same h.0 t h.1 more (sym h.2 ∙ f) in (
       not_within D before t (λ b. none_excused e.reason (not_bounded D E read r ts before rest more t e split f left stop b)) (subst (λ z. z.kind ≡ kind.Comma → ⊥) same.0 h.3),
@@ -243,11 +243,11 @@ err_same : {A : Type 0} (o : Result A Fault) (a b : Fault) → o ≡ Err a → o
 err_same o a b f g = cc
 
 -- what stands behind the tokens that can be completed
-fault_behind : {A : Type 0} (D : Limit → Tokens → Type 0) (E : Tokens → Type 0) (read : Limit → Tokens → Answer A) → Reading D E read → (end : Pos) (fault : Option Fault) (ts : Tokens) (e : Stop) → read bounded ts ≡ Err e → (before rest : Tokens) → ts ≡ before ++ rest → length rest ≡ e.left
-    → HaltWhy D E before rest e.reason → FaultBehind D E end fault ts before rest (fault_of end fault ts e)
+fault_behind : {A : Type 0} (D : Limit → Tokens → Type 0) (E : Tokens → Type 0) (read : Limit → Tokens → Answer A) → Reading D E read → (end : Pos) (fault : Option Fault) (ts : Tokens) (e : Stop) → read language_limit ts ≡ Err e → (before rest : Tokens) → ts ≡ before ++ rest → length rest ≡ e.left
+    → HaltWhy D E before rest e.reason → IsFaultAfter D E end fault ts before rest (fault_of end fault ts e)
 fault_behind D E read r end fault ts e stop before [] split left why = (
   ap (λ z. fault_at end fault ts z e.reason (slice_get ts z)) (number_is (length ts - e.left) (omega (arith, left))) ∙ ap (λ z. fault_at end fault ts (length ts) e.reason z) (past_end ts),
-  λ none d. let x = r.complete ts d in err_is_no_ok e x.0 (read bounded ts) stop x.1,
+  λ none d. let x = r.complete ts d in err_is_no_ok e x.0 (read language_limit ts) stop x.1,
 ) where
   number_is : (n : ℕ) → n ≡ length ts → length ts - e.left ≡ length ts
   number_is n f = omega (arith, left)
@@ -260,22 +260,22 @@ fault_behind D E read r end fault ts e stop before (t ∷ more) split left why =
       token_is : slice_get ts (length before) ≡ Some t
       token_is = ap (λ z. slice_get z (length before)) split ∙ at_number before more t
 
-stop_first : {A : Type 0} (D : Limit → Tokens → Type 0) (E : Tokens → Type 0) (read : Limit → Tokens → Answer A) → Reading D E read → (end : Pos) (fault : Option Fault) (ts : Tokens) (e : Stop) → read bounded ts ≡ Err e → IsFirst D E end fault ts (fault_of end fault ts e)
+stop_first : {A : Type 0} (D : Limit → Tokens → Type 0) (E : Tokens → Type 0) (read : Limit → Tokens → Answer A) → Reading D E read → (end : Pos) (fault : Option Fault) (ts : Tokens) (e : Stop) → read language_limit ts ≡ Err e → IsFirstFaultIn D E end fault ts (fault_of end fault ts e)
 stop_first D E read r end fault ts e stop =
     let h = r.halts ts e stop in
-    record { before = h.before; rest = h.rest; split = h.split; within = h.within; behind = fault_behind D E read r end fault ts e stop h.before h.rest h.split h.left h.why }
+    record { before = h.before; rest = h.rest; split = h.split; within = h.within; fault_after = fault_behind D E read r end fault ts e stop h.before h.rest h.split h.left h.why }
 
-lexical_first : (D : Limit → Tokens → Type 0) (E : Tokens → Type 0) (end : Pos) (ts : Tokens) (f : Fault) → D bounded ts → IsFirst D E end (Some f) ts f
-lexical_first D E end ts f d = record { before = ts; rest = []; split = sym (append-nil ts); within = IsWithin.begins ([], subst (λ z. D bounded z) (sym (append-nil ts)) d); behind = (refl, λ e. cc) }
+lexical_first : (D : Limit → Tokens → Type 0) (E : Tokens → Type 0) (end : Pos) (ts : Tokens) (f : Fault) → D language_limit ts → IsFirstFaultIn D E end (Some f) ts f
+lexical_first D E end ts f d = record { before = ts; rest = []; split = sym (append-nil ts); within = IsViablePrefix.begins ([], subst (λ z. D language_limit z) (sym (append-nil ts)) d); fault_after = (refl, λ e. cc) }
 
 -- what is judged of an answer
-judged_first : {A : Type 0} (D : Limit → Tokens → Type 0) (E : Tokens → Type 0) (read : Limit → Tokens → Answer A) → Reading D E read → (end : Pos) (ts : Terminals) (o : Answer A) → read bounded ts.tokens ≡ o → (f : Fault) → judged end ts o ≡ Err f → IsFirst D E end ts.fault ts.tokens f
-judged_first D E read r end ts (Err e) stop f h = subst (λ z. IsFirst D E end ts.fault ts.tokens z) (err_same (judged end ts (Err e)) (fault_of end ts.fault ts.tokens e) f refl h) (stop_first D E read r end ts.fault ts.tokens e stop)
+judged_first : {A : Type 0} (D : Limit → Tokens → Type 0) (E : Tokens → Type 0) (read : Limit → Tokens → Answer A) → Reading D E read → (end : Pos) (ts : Terminals) (o : Answer A) → read language_limit ts.tokens ≡ o → (f : Fault) → tree_or_fault end ts o ≡ Err f → IsFirstFaultIn D E end ts.fault ts.tokens f
+judged_first D E read r end ts (Err e) stop f h = subst (λ z. IsFirstFaultIn D E end ts.fault ts.tokens z) (err_same (tree_or_fault end ts (Err e)) (fault_of end ts.fault ts.tokens e) f refl h) (stop_first D E read r end ts.fault ts.tokens e stop)
 judged_first D E read r end ts (Ok x) stop f h = of ts.fault h where
-  of : (o : Option Fault) → unless_fault o x ≡ Err f → IsFirst D E end o ts.tokens f
+  of : (o : Option Fault) → unless_fault o x ≡ Err f → IsFirstFaultIn D E end o ts.tokens f
   of None g = cc
-  of (Some a) g = subst (λ z. IsFirst D E end (Some a) ts.tokens z) (err_same (unless_fault (Some a) x) a f refl g) (lexical_first D E end ts.tokens a (r.sound ts.tokens x stop))
+  of (Some a) g = subst (λ z. IsFirstFaultIn D E end (Some a) ts.tokens z) (err_same (unless_fault (Some a) x) a f refl g) (lexical_first D E end ts.tokens a (r.sound ts.tokens x stop))
 
 -- the fault where reading stops is the first one
-pub first_fault : {A : Type 0} (D : Limit → Tokens → Type 0) (E : Tokens → Type 0) (read : Limit → Tokens → Answer A) → Reading D E read → (end : Pos) (ts : Terminals) (f : Fault) → judged end ts (read bounded ts.tokens) ≡ Err f → IsFirst D E end ts.fault ts.tokens f
-first_fault D E read r end ts f h = judged_first D E read r end ts (read bounded ts.tokens) refl f h
+pub first_fault : {A : Type 0} (D : Limit → Tokens → Type 0) (E : Tokens → Type 0) (read : Limit → Tokens → Answer A) → Reading D E read → (end : Pos) (ts : Terminals) (f : Fault) → tree_or_fault end ts (read language_limit ts.tokens) ≡ Err f → IsFirstFaultIn D E end ts.fault ts.tokens f
+first_fault D E read r end ts f h = judged_first D E read r end ts (read language_limit ts.tokens) refl f h

@@ -8,7 +8,7 @@ use Rattle.pvs_syntax.specs.declared.word.Word.{Word}
 use Rattle.pvs_syntax.specs.declared.expression.TypeExpr.{TypeExpr}
 use Rattle.pvs_syntax.specs.declared.unit.Formal.{Formal}
 use Rattle.pvs_parser.specs.Terminals.{Is, is_id}
-use Rattle.pvs_parser.specs.Language.{Limit, IsBelow, HasRoom, Tokens, Derives, type_, outermost, inside}
+use Rattle.pvs_parser.specs.Language.{Limit, IsBelow, HasRoom, Tokens, Derives, type_, outermost, in_frame}
 use Rattle.pvs_parser.specs.Units.{DerivesIds, DerivesTypeWord, DerivesFormal, DerivesFormals, DerivesFormalPart, type_formal, const_formal}
 use Rattle.pvs_parser.specs.Descent.{after, either, entries, starts_type}
 use Rattle.pvs_base.specs.Answers.{◌>>=◌}
@@ -38,8 +38,8 @@ abbrev KindFront : Limit → Tokens → List Word → Terminal → Tokens → Li
 KindFront limit ns ws u ts p = (vs : Tokens) × Splits ts vs p.1 × DerivesFormal limit (ns ++ u ∷ vs) p.0
 
 formal_type_sound : (limit : Limit) (ns : Tokens) (ws : List Word) (u : Terminal) → DerivesIds limit ns ws → Is kind.Colon u → (ts : Tokens)
-    → Yields (type limit (inside outermost) ts >>= λ p. Ok (map (const_formal p.0) ws, p.1)) (KindFront limit ns ws u ts)
-formal_type_sound limit ns ws u d colon ts = bind (type_sound limit (inside outermost) ts) (λ p f. here (f.0, f.1, DerivesFormal.constants ns f.0 ws p.0 f.2.0 u d colon f.2.1))
+    → Yields (type limit (in_frame outermost) ts >>= λ p. Ok (map (const_formal p.0) ws, p.1)) (KindFront limit ns ws u ts)
+formal_type_sound limit ns ws u d colon ts = bind (type_sound limit (in_frame outermost) ts) (λ p f. here (f.0, f.1, DerivesFormal.constants ns f.0 ws p.0 f.2.0 u d colon f.2.1))
 
 formal_of_sound : (limit : Limit) (ns : Tokens) (ws : List Word) (u : Terminal) → DerivesIds limit ns ws → Is kind.Colon u → (t : Terminal) (ts : Tokens) (k : TerminalKind) → t.kind ≡ k
     → Yields (formal_of limit ws t ts k) (KindFront limit ns ws u (t ∷ ts))
@@ -83,7 +83,7 @@ from_sound limit (suc n) most before ts =
 -- formals behind a bracket
 formals_sound : (limit : Limit) (t : Terminal) (ts us : Tokens) → ts ≡ t ∷ us → Is kind.OpenBracket t → Yields (formals limit us) (Fore (DerivesFormalPart limit) ts)
 formals_sound limit t ts us e is =
-    room limit outermost (inside outermost) us _ (λ lt. bind (from_sound limit (entries limit us) (entries_at_most limit us) [] us) (λ p f. bind (expect_yields kind.CloseBracket p.1) (λ vs a. here (
+    room limit outermost (in_frame outermost) us _ (λ lt. bind (from_sound limit (entries limit us) (entries_at_most limit us) [] us) (λ p f. bind (expect_yields kind.CloseBracket p.1) (λ vs a. here (
       t ∷ (f.2 ++ a.0 ∷ []),
       put e (glue f.3 (alone a.1)),
       subst (λ z. DerivesFormalPart limit (t ∷ (f.2 ++ a.0 ∷ [])) z) (sym f.4) (DerivesFormalPart.formals f.0 f.2 f.1 t a.0 is lt f.6 a.2),
@@ -113,16 +113,16 @@ formal_types limit _ _ (DerivesTypeWord.type_plus t u is sign) ws us ends =
 formal_types limit _ _ (DerivesTypeWord.nonempty_type t is) ws us ends = record { is = ap (formal_of limit ws t us) is }
 
 formal_type : (limit : Limit) (ws : List Word) (t : Terminal) (ts : Tokens) (k : TerminalKind) → starts_type k ≡ true
-    → formal_of limit ws t ts k ≡ (type limit (inside outermost) (t ∷ ts) >>= λ p. Ok (map (const_formal p.0) ws, p.1))
+    → formal_of limit ws t ts k ≡ (type limit (in_frame outermost) (t ∷ ts) >>= λ p. Ok (map (const_formal p.0) ws, p.1))
 formal_type limit ws t ts kind.Type e = cc
 formal_type limit ws t ts kind.NonemptyType e = cc
 formal_type limit ws t ts _ e = refl
 
-formal_constants : (limit : Limit) (ts : Tokens) (a : TypeExpr) (m : Nesting) → Derives limit type_ (inside outermost) ts a m → (ws : List Word) (us : Tokens) → PartEnds us → Gets (formal_after limit ws (ts ++ us)) (map (const_formal a) ws, us)
+formal_constants : (limit : Limit) (ts : Tokens) (a : TypeExpr) (m : Nesting) → Derives limit type_ (in_frame outermost) ts a m → (ws : List Word) (us : Tokens) → PartEnds us → Gets (formal_after limit ws (ts ++ us)) (map (const_formal a) ws, us)
 formal_constants limit ts a m d ws us ends =
-    let b = type_first (inside outermost) ts a m d in
-    let g : Gets (type limit (inside outermost) (b.0 ∷ (b.1 ++ us))) (a, us) =
-    subst (λ z. Gets (type limit (inside outermost) (z ++ us)) (a, us)) b.2 (type_complete limit (inside outermost) ts a (m, d) (ts ++ us) us both (part_whole us ends).1) in
+    let b = type_first (in_frame outermost) ts a m d in
+    let g : Gets (type limit (in_frame outermost) (b.0 ∷ (b.1 ++ us))) (a, us) =
+    subst (λ z. Gets (type limit (in_frame outermost) (z ++ us)) (a, us)) b.2 (type_complete limit (in_frame outermost) ts a (m, d) (ts ++ us) us both (part_whole us ends).1) in
     subst (λ z. Gets (formal_after limit ws (z ++ us)) (map (const_formal a) ws, us)) (sym b.2)
     (record { is = formal_type limit ws b.0 (b.1 ++ us) b.0.kind b.3 ∙ (then_ (λ p. Ok (map (const_formal p.0) ws, p.1)) g found).is })
 
@@ -163,7 +163,7 @@ formals_goes : (limit : Limit) (k : ℕ) (ts : Tokens) (fs : List Formal) (u : T
 formals_goes limit k ts fs u all us lt d close s =
     let few = formals_few limit lt k ts fs d in
     let size : length all ≡ length (ts ++ u ∷ us) = ap length s.same in
-    has_room limit outermost (inside outermost) all _ lt
+    has_room limit outermost (in_frame outermost) all _ lt
     (then_ _ (from_complete limit lt k ts fs d (entries limit all) (enough_entries limit k all few.0 (omega (arith, few.1, size, length-append ts (u ∷ us)))) [] all (u ∷ us) s (part_at kind.CloseBracket refl u us close) (bracket_comma u us close))
     (takes kind.CloseBracket u us _ close found))
 

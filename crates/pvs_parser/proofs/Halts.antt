@@ -11,7 +11,7 @@ use Rattle.pvs_parser.specs.declared.terminal.TerminalKind.{TerminalKind}
 use Rattle.pvs_parser.specs.declared.terminal.TerminalKind.TheVariants as kind
 use Rattle.pvs_syntax.specs.declared.word.Word.{Word}
 use Rattle.pvs_parser.specs.Terminals.{Is, IsId, is_id, same_kind}
-use Rattle.pvs_parser.specs.Language.{Limit, Tokens, IsBelow, HasRoom, level, marked, before_call}
+use Rattle.pvs_parser.specs.Language.{Limit, Tokens, IsBelow, HasRoom, level, with_mark, before_call}
 use Rattle.pvs_parser.specs.Descent.{Answer, either, stop, expect, id, number, is_below, with_room, too_deep, call_mark, prefix, begins, begins_of}
 use Rattle.pvs_base.specs.Answers.{◌>>=◌}
 use Rattle.pvs_parser.proofs.Yields.{Yields}
@@ -124,7 +124,7 @@ pub room_else : {B : Type 0} (limit : Limit) (n m : Nesting) (ts : Tokens) (f : 
 room_else limit n m ts f {Q = Q} q g = room_or limit n m ts f Q q g (is_below limit (level n)) refl
 
 pub call_mark_then : {B : Type 0} (limit : Limit) (b : Bool) (l : Nesting) (ts : Tokens) (f : Nesting → Answer B) (Q : Stop → Type 0) → Q (deep ts) → Stops (f (before_call b l)) Q → Stops (call_mark limit b l ts >>= f) Q
-call_mark_then limit true l ts f Q q g = room_then limit l (marked l) ts f q (λ lt. g)
+call_mark_then limit true l ts f Q q g = room_then limit l (with_mark l) ts f q (λ lt. g)
 call_mark_then limit false l ts f Q q g = g
 
 begins_one : {B : Type 0} (t : Terminal) (ts : Tokens) (f : Prefix × Word × Tokens → Answer B) (d : Answer B) (Q : Stop → Type 0)

@@ -19,7 +19,7 @@ use Rattle.pvs_syntax.specs.declared.expression.LetPart.{LetPart}
 use Rattle.pvs_syntax.specs.declared.expression.TypeExpr.{TypeExpr}
 use Rattle.pvs_syntax.specs.declared.expression.TypeExpr.TheVariants as type_expr
 use Rattle.pvs_parser.specs.Terminals.{Is, IsId, is_id}
-use Rattle.pvs_parser.specs.Language.{Limit, Tokens, IsBelow, HasRoom, level, Derives, Ending, Plain, Bound, Form, Item, Nonterminal, form, item, list, name, inst, type_, Tree, ItemTree, inside, cleared, marked, held, before_call, named, tighter, sign, comparison, binder_word, begins_type, whole}
+use Rattle.pvs_parser.specs.Language.{Limit, Tokens, IsBelow, HasRoom, level, Derives, Ending, Plain, Bound, Form, Item, Nonterminal, form, item, list, name, inst, type_, TreeOf, ItemTree, in_frame, without_marks, with_mark, with_lasting_mark, before_call, simple_name, operand_form, sign, comparison, binder_word, begins_type, whole}
 use Rattle.pvs_parser.specs.Descent.{starts_expr, starts_type, starts_item}
 use Rattle.pvs_parser.proofs.Nonempty.{nonempty}
 use Rattle.pvs_parser.proofs.Gets.{both}
@@ -33,7 +33,7 @@ pub record Completes (w : Limit) (s : Nonterminal) (l : Nesting) (p : Tokens) : 
   pub all : Tokens
   pub more : Tokens
   pub split : Splits all p more
-  pub tree : Tree s
+  pub tree : TreeOf s
   pub behind : Nesting
   pub derives : Derives w s l all tree behind
 
@@ -62,14 +62,14 @@ pub record ListBegun (w : Limit) (i : Item) (found : ℕ) (l : Nesting) (p : Tok
   pub derives : Derives w (list i) l all (x ∷ xs) behind
   pub fits : IsBelow w (found + length xs)
 
-pub made : {w : Limit} {s : Nonterminal} {l m : Nesting} {all p more : Tokens} {x : Tree s} → Splits all p more → Derives w s l all x m → Completes w s l p
+pub made : {w : Limit} {s : Nonterminal} {l m : Nesting} {all p more : Tokens} {x : TreeOf s} → Splits all p more → Derives w s l all x m → Completes w s l p
 made {m = m} {all = all} {more = more} {x = x} s d = record { all = all; more = more; split = s; tree = x; behind = m; derives = d }
 
-pub completed : {w : Limit} {s : Nonterminal} {l m : Nesting} {ts : Tokens} {x : Tree s} → Derives w s l ts x m → Completes w s l ts
+pub completed : {w : Limit} {s : Nonterminal} {l m : Nesting} {ts : Tokens} {x : TreeOf s} → Derives w s l ts x m → Completes w s l ts
 completed {ts = ts} d = made (record { same = sym (append-nil ts) }) d
 
 -- the tokens that complete them, what they are completed to, and the nesting behind it
-pub completion : {w : Limit} {s : Nonterminal} {l : Nesting} {p : Tokens} → Completes w s l p → (c : Tokens) × (x : Tree s) × (m : Nesting) × Derives w s l (p ++ c) x m
+pub completion : {w : Limit} {s : Nonterminal} {l : Nesting} {p : Tokens} → Completes w s l p → (c : Tokens) × (x : TreeOf s) × (m : Nesting) × Derives w s l (p ++ c) x m
 completion {w = w} {s = s} {l = l} c = (c.more, c.tree, c.behind, subst (λ z. Derives w s l z c.tree c.behind) c.split.same c.derives)
 
 -- with more behind
@@ -91,7 +91,7 @@ abbrev pub id_tokens : Tokens
 id_tokens = tok kind.Id ∷ []
 
 abbrev pub id_tree : TypeExpr
-id_tree = type_expr.NameType (named (tok kind.Id).word)
+id_tree = type_expr.NameType (simple_name (tok kind.Id).word)
 
 true_term : (w : Limit) (l : Nesting) → Derives w (form (Form.Term false)) l true_tokens true_tree l
 true_term w l = Derives.truth l (tok kind.True) refl
@@ -121,10 +121,10 @@ pub true_item : (w : Limit) (l : Nesting) → Derives w (item Item.Expression) l
 true_item w l = Derives.expression Plain l l true_tokens true_tree (true_whole w l)
 
 pub id_type : (w : Limit) (l : Nesting) → Derives w type_ l id_tokens id_tree l
-id_type w l = Derives.name_type l l id_tokens (named (tok kind.Id).word) (Derives.plain_name l (tok kind.Id) refl)
+id_type w l = Derives.name_type l l id_tokens (simple_name (tok kind.Id).word) (Derives.plain_name l (tok kind.Id) refl)
 
-true_otherwise : (w : Limit) (l : Nesting) → Derives w (form Form.Otherwise) l (tok kind.Else ∷ (true_tokens ++ tok kind.EndIf ∷ [])) true_tree (cleared l)
-true_otherwise w l = Derives.else_ l (cleared l) true_tokens true_tree (tok kind.Else) (tok kind.EndIf) refl (true_item w (cleared l)) refl
+true_otherwise : (w : Limit) (l : Nesting) → Derives w (form Form.Otherwise) l (tok kind.Else ∷ (true_tokens ++ tok kind.EndIf ∷ [])) true_tree (without_marks l)
+true_otherwise w l = Derives.else_ l (without_marks l) true_tokens true_tree (tok kind.Else) (tok kind.EndIf) refl (true_item w (without_marks l)) refl
 
 -- TRUE, as each form of an expression
 pub some_term : {w : Limit} {l : Nesting} → TermBegun w l []
@@ -212,7 +212,7 @@ one_begun {w = w} i {l = l} found lt c = record {
   fits = below_le w (found + 0) found lt (omega arith);
 }
 
-pub more_begun : {w : Limit} (i : Item) {l k : Nesting} {vs p : Tokens} {x : ItemTree i} (t : Terminal) (found : ℕ) → Derives w (item i) l vs x k → Is kind.Comma t → ListBegun w i (suc found) (cleared k) p → ListBegun w i found l (vs ++ t ∷ p)
+pub more_begun : {w : Limit} (i : Item) {l k : Nesting} {vs p : Tokens} {x : ItemTree i} (t : Terminal) (found : ℕ) → Derives w (item i) l vs x k → Is kind.Comma t → ListBegun w i (suc found) (without_marks k) p → ListBegun w i found l (vs ++ t ∷ p)
 more_begun {w = w} i {l = l} {k = k} {vs = vs} {x = x} t found d is g = record {
   all = vs ++ t ∷ g.all;
   more = g.more;
@@ -242,10 +242,10 @@ pub record FramedBegun (w : Limit) (i : Item) (end : TerminalKind) (l : Nesting)
   pub tree : List (ItemTree i)
   pub behind : Nesting
   pub room : HasRoom w l
-  pub derives : Derives w (list i) (inside l) all tree behind
+  pub derives : Derives w (list i) (in_frame l) all tree behind
   pub is : Is end close
 
-pub framed_begun : {w : Limit} {i : Item} (end : TerminalKind) {l : Nesting} {p : Tokens} → HasRoom w l → Completes w (list i) (inside l) p → FramedBegun w i end l p
+pub framed_begun : {w : Limit} {i : Item} (end : TerminalKind) {l : Nesting} {p : Tokens} → HasRoom w l → Completes w (list i) (in_frame l) p → FramedBegun w i end l p
 framed_begun end lt c = record {
   all = c.all;
   more = c.more ++ tok end ∷ [];
@@ -270,7 +270,7 @@ instance_begun {l = l} {m = m} {vs = vs} {i = i} d = made both (Derives.qualifie
 pub dot_begun : {w : Limit} {l m : Nesting} {vs : Tokens} {i : InstExpr} (t : Terminal) → Derives w inst l vs i m → Is kind.Dot t → Completes w name l (vs ++ t ∷ [])
 dot_begun {l = l} {m = m} {vs = vs} {i = i} t d dot = made (glue both (alone refl)) (Derives.qualified_name l m vs i t (tok kind.Id) d dot refl)
 
-pub actuals_begun : {w : Limit} {l : Nesting} {p : Tokens} {t u : Terminal} → IsId t → Is kind.OpenBracket u → HasRoom w l → Completes w (list Item.Parameter) (inside l) p → Completes w name l (t ∷ u ∷ p)
+pub actuals_begun : {w : Limit} {l : Nesting} {p : Tokens} {t u : Terminal} → IsId t → Is kind.OpenBracket u → HasRoom w l → Completes w (list Item.Parameter) (in_frame l) p → Completes w name l (t ∷ u ∷ p)
 actuals_begun {l = l} {t = t} {u = u} is opened lt c =
     made (extend (tok kind.Dot ∷ id_tokens) (put refl (put refl (extend (tok kind.CloseBracket ∷ []) c.split))))
     (Derives.qualified_name l l _ _ (tok kind.Dot) (tok kind.Id) (Derives.inst_with l c.behind c.all c.tree t u (tok kind.CloseBracket) is opened lt c.derives refl) refl refl)
@@ -280,7 +280,7 @@ actuals_begun {l = l} {t = t} {u = u} is opened lt c =
 pub name_term_begun : {w : Limit} {l : Nesting} {p : Tokens} → Completes w name l p → TermBegun w l p
 name_term_begun {l = l} c = (false, made c.split (Derives.name_term l c.behind c.all c.tree c.derives))
 
-pub group_begun : {w : Limit} {l : Nesting} {p : Tokens} {t : Terminal} → Is kind.Open t → HasRoom w l → Completes w (list Item.Expression) (inside l) p → TermBegun w l (t ∷ p)
+pub group_begun : {w : Limit} {l : Nesting} {p : Tokens} {t : Terminal} → Is kind.Open t → HasRoom w l → Completes w (list Item.Expression) (in_frame l) p → TermBegun w l (t ∷ p)
 group_begun {l = l} {t = t} is lt c = (true, made (put refl (extend (tok kind.Close ∷ []) c.split)) (Derives.group l c.behind c.all c.tree t (tok kind.Close) is lt c.derives refl))
 
 -- what can be completed to an expression, THEN, an expression and what follows it
@@ -299,7 +299,7 @@ pub record CondBegun (w : Limit) (l : Nesting) (p : Tokens) : Type 0 where
   pub m : Nesting
   pub test : Derives w (item Item.Expression) l vs c k
   pub behind : Is kind.Then u
-  pub holds : Derives w (item Item.Expression) (cleared k) us x j
+  pub holds : Derives w (item Item.Expression) (without_marks k) us x j
   pub fails : Derives w (form Form.Otherwise) j ws y m
 
 pub test_begun : {w : Limit} {l : Nesting} {p : Tokens} → Completes w (item Item.Expression) l p → CondBegun w l p
@@ -314,15 +314,15 @@ test_begun {w = w} c = record {
   x = true_tree;
   y = true_tree;
   k = c.behind;
-  j = cleared c.behind;
-  m = cleared (cleared c.behind);
+  j = without_marks c.behind;
+  m = without_marks (without_marks c.behind);
   test = c.derives;
   behind = refl;
-  holds = true_item w (cleared c.behind);
-  fails = true_otherwise w (cleared c.behind);
+  holds = true_item w (without_marks c.behind);
+  fails = true_otherwise w (without_marks c.behind);
 }
 
-pub then_begun : {w : Limit} {l k : Nesting} {vs p : Tokens} {x : Expr} (u : Terminal) → Derives w (item Item.Expression) l vs x k → Is kind.Then u → Completes w (item Item.Expression) (cleared k) p → CondBegun w l (vs ++ u ∷ p)
+pub then_begun : {w : Limit} {l k : Nesting} {vs p : Tokens} {x : Expr} (u : Terminal) → Derives w (item Item.Expression) l vs x k → Is kind.Then u → Completes w (item Item.Expression) (without_marks k) p → CondBegun w l (vs ++ u ∷ p)
 then_begun {w = w} {k = k} {vs = vs} {x = x} u d is c = record {
   vs = vs;
   us = c.all;
@@ -335,14 +335,14 @@ then_begun {w = w} {k = k} {vs = vs} {x = x} u d is c = record {
   y = true_tree;
   k = k;
   j = c.behind;
-  m = cleared c.behind;
+  m = without_marks c.behind;
   test = d;
   behind = is;
   holds = c.derives;
   fails = true_otherwise w c.behind;
 }
 
-pub rest_begun : {w : Limit} {l k j : Nesting} {vs us p : Tokens} {x y : Expr} (u : Terminal) → Derives w (item Item.Expression) l vs x k → Is kind.Then u → Derives w (item Item.Expression) (cleared k) us y j → Completes w (form Form.Otherwise) j p
+pub rest_begun : {w : Limit} {l k j : Nesting} {vs us p : Tokens} {x y : Expr} (u : Terminal) → Derives w (item Item.Expression) l vs x k → Is kind.Then u → Derives w (item Item.Expression) (without_marks k) us y j → Completes w (form Form.Otherwise) j p
     → CondBegun w l (vs ++ u ∷ (us ++ p))
 rest_begun {k = k} {j = j} {vs = vs} {us = us} {x = x} {y = y} u d is e c = record {
   vs = vs;
@@ -363,16 +363,16 @@ rest_begun {k = k} {j = j} {vs = vs} {us = us} {x = x} {y = y} u d is e c = reco
   fails = c.derives;
 }
 
-pub if_begun : {w : Limit} {l : Nesting} {p : Tokens} {t : Terminal} → Is kind.If t → HasRoom w l → CondBegun w (inside l) p → TermBegun w l (t ∷ p)
+pub if_begun : {w : Limit} {l : Nesting} {p : Tokens} {t : Terminal} → Is kind.If t → HasRoom w l → CondBegun w (in_frame l) p → TermBegun w l (t ∷ p)
 if_begun {l = l} {t = t} is lt g = (true, made (put refl g.split) (Derives.cond l g.k g.j g.m g.vs g.us g.ws g.c g.x g.y t g.u is lt g.test g.behind g.holds g.fails))
 
-pub elsif_begun : {w : Limit} {l : Nesting} {p : Tokens} {t : Terminal} → Is kind.Elsif t → HasRoom w (cleared l) → CondBegun w (held (cleared l)) p → Completes w (form Form.Otherwise) l (t ∷ p)
+pub elsif_begun : {w : Limit} {l : Nesting} {p : Tokens} {t : Terminal} → Is kind.Elsif t → HasRoom w (without_marks l) → CondBegun w (with_lasting_mark (without_marks l)) p → Completes w (form Form.Otherwise) l (t ∷ p)
 elsif_begun {l = l} {t = t} is lt g = made (put refl g.split) (Derives.elsif l g.k g.j g.m g.vs g.us g.ws g.c g.x g.y t g.u is lt g.test g.behind g.holds g.fails)
 
-pub else_begun : {w : Limit} {l : Nesting} {p : Tokens} {t : Terminal} → Is kind.Else t → Completes w (item Item.Expression) (cleared l) p → Completes w (form Form.Otherwise) l (t ∷ p)
+pub else_begun : {w : Limit} {l : Nesting} {p : Tokens} {t : Terminal} → Is kind.Else t → Completes w (item Item.Expression) (without_marks l) p → Completes w (form Form.Otherwise) l (t ∷ p)
 else_begun {l = l} {t = t} is c = made (put refl (extend (tok kind.EndIf ∷ []) c.split)) (Derives.else_ l c.behind c.all c.tree t (tok kind.EndIf) is c.derives refl)
 
-pub call_begun : {w : Limit} {b : Bool} {l k : Nesting} {vs p : Tokens} {x : Expr} (t : Terminal) → Derives w (form (Form.Term b)) l vs x k → Is kind.Open t → HasRoom w (before_call b k) → Completes w (list Item.Expression) (inside (before_call b k)) p
+pub call_begun : {w : Limit} {b : Bool} {l k : Nesting} {vs p : Tokens} {x : Expr} (t : Terminal) → Derives w (form (Form.Term b)) l vs x k → Is kind.Open t → HasRoom w (before_call b k) → Completes w (list Item.Expression) (in_frame (before_call b k)) p
     → TermBegun w l (vs ++ t ∷ p)
 call_begun {b = b} {l = l} {k = k} {vs = vs} {x = x} t d is lt c =
     (true, made (glue both (put refl (extend (tok kind.Close ∷ []) c.split))) (Derives.call b l k c.behind vs c.all x c.tree t (tok kind.Close) d is lt c.derives refl))
@@ -382,51 +382,51 @@ project_begun {b = b} {l = l} {k = k} {vs = vs} {x = x} t d is lt = (true, made 
 
 -- ---- NOT, binders and LET
 
-pub not_begun : {w : Limit} {l : Nesting} {p : Tokens} {t : Terminal} → Is kind.Not t → HasRoom w l → Begun w (λ e. Form.Operand e) (marked l) p → Begun w (λ e. Form.Prefixed e) l (t ∷ p)
+pub not_begun : {w : Limit} {l : Nesting} {p : Tokens} {t : Terminal} → Is kind.Not t → HasRoom w l → Begun w (λ e. Form.Operand e) (with_mark l) p → Begun w (λ e. Form.Prefixed e) l (t ∷ p)
 not_begun {l = l} {t = t} is lt g = let c = g.1 in (g.0, made (put refl c.split) (Derives.not g.0 l c.behind c.all c.tree t is lt c.derives))
 
-pub bindings_begun : {w : Limit} {l : Nesting} {p : Tokens} {b : BinderWord} {t u : Terminal} → binder_word t.kind ≡ Some b → HasRoom w l → Is kind.Open u → HasRoom w (held l) → Completes w (list Item.Variable) (inside (held l)) p
+pub bindings_begun : {w : Limit} {l : Nesting} {p : Tokens} {b : BinderWord} {t u : Terminal} → binder_word t.kind ≡ Some b → HasRoom w l → Is kind.Open u → HasRoom w (with_lasting_mark l) → Completes w (list Item.Variable) (in_frame (with_lasting_mark l)) p
     → Begun w (λ e. Form.Prefixed e) l (t ∷ u ∷ p)
 bindings_begun {w = w} {l = l} {b = b} {t = t} {u = u} is lt opened has c = (
   Bound,
   made (put refl (put refl (extend (tok kind.Close ∷ tok kind.Colon ∷ true_tokens) c.split)))
-      (Derives.binder Plain l c.behind (held l) c.all true_tokens c.tree true_tree b t u (tok kind.Close) (tok kind.Colon) is lt opened has c.derives refl refl (true_whole w (held l))),
+      (Derives.binder Plain l c.behind (with_lasting_mark l) c.all true_tokens c.tree true_tree b t u (tok kind.Close) (tok kind.Colon) is lt opened has c.derives refl refl (true_whole w (with_lasting_mark l))),
 )
 
 -- before the colon
-pub bound_begun : {w : Limit} {l k : Nesting} {vs : Tokens} {bs : List Binding} {b : BinderWord} {t u : Terminal} (v : Terminal) → binder_word t.kind ≡ Some b → HasRoom w l → Is kind.Open u → HasRoom w (held l) → Derives w (list Item.Variable) (inside (held l)) vs bs k
+pub bound_begun : {w : Limit} {l k : Nesting} {vs : Tokens} {bs : List Binding} {b : BinderWord} {t u : Terminal} (v : Terminal) → binder_word t.kind ≡ Some b → HasRoom w l → Is kind.Open u → HasRoom w (with_lasting_mark l) → Derives w (list Item.Variable) (in_frame (with_lasting_mark l)) vs bs k
     → Is kind.Close v → Begun w (λ e. Form.Prefixed e) l (t ∷ u ∷ (vs ++ v ∷ []))
 bound_begun {w = w} {l = l} {k = k} {vs = vs} {bs = bs} {b = b} {t = t} {u = u} v is lt opened has d close = (
   Bound,
   made (put refl (put refl (glue both (alone refl))))
-      (Derives.binder Plain l k (held l) vs true_tokens bs true_tree b t u v (tok kind.Colon) is lt opened has d close refl (true_whole w (held l))),
+      (Derives.binder Plain l k (with_lasting_mark l) vs true_tokens bs true_tree b t u v (tok kind.Colon) is lt opened has d close refl (true_whole w (with_lasting_mark l))),
 )
 
-pub binder_begun : {w : Limit} {l k : Nesting} {vs p : Tokens} {bs : List Binding} {b : BinderWord} {t u : Terminal} (v c : Terminal) → binder_word t.kind ≡ Some b → HasRoom w l → Is kind.Open u → HasRoom w (held l) → Derives w (list Item.Variable) (inside (held l)) vs bs k
-    → Is kind.Close v → Is kind.Colon c → Begun w (λ e. Form.Chain connective.Iff e) (held l) p → Begun w (λ e. Form.Prefixed e) l (t ∷ u ∷ (vs ++ v ∷ c ∷ p))
+pub binder_begun : {w : Limit} {l k : Nesting} {vs p : Tokens} {bs : List Binding} {b : BinderWord} {t u : Terminal} (v c : Terminal) → binder_word t.kind ≡ Some b → HasRoom w l → Is kind.Open u → HasRoom w (with_lasting_mark l) → Derives w (list Item.Variable) (in_frame (with_lasting_mark l)) vs bs k
+    → Is kind.Close v → Is kind.Colon c → Begun w (λ e. Form.Chain connective.Iff e) (with_lasting_mark l) p → Begun w (λ e. Form.Prefixed e) l (t ∷ u ∷ (vs ++ v ∷ c ∷ p))
 binder_begun {l = l} {k = k} {vs = vs} {bs = bs} {b = b} {t = t} {u = u} v c is lt opened has d close colon g =
     let z = g.1 in (Bound, made (put refl (put refl (glue both (put refl (put refl z.split))))) (Derives.binder g.0 l k z.behind vs z.all bs z.tree b t u v c is lt opened has d close colon z.derives))
 
-pub bare_begun : {w : Limit} {l : Nesting} {p : Tokens} {b : BinderWord} {t : Terminal} → binder_word t.kind ≡ Some b → HasRoom w l → Completes w (list Item.BareVariable) (held l) p → Begun w (λ e. Form.Prefixed e) l (t ∷ p)
+pub bare_begun : {w : Limit} {l : Nesting} {p : Tokens} {b : BinderWord} {t : Terminal} → binder_word t.kind ≡ Some b → HasRoom w l → Completes w (list Item.BareVariable) (with_lasting_mark l) p → Begun w (λ e. Form.Prefixed e) l (t ∷ p)
 bare_begun {w = w} {l = l} {b = b} {t = t} is lt c = (
   Bound,
   made (put refl (extend (tok kind.Colon ∷ true_tokens) c.split))
       (Derives.bare_binder Plain l c.behind c.behind c.all true_tokens c.tree true_tree b t (tok kind.Colon) is lt c.derives refl (true_whole w c.behind)),
 )
 
-pub bare_binder_begun : {w : Limit} {l k : Nesting} {vs p : Tokens} {bs : List Binding} {b : BinderWord} {t : Terminal} (c : Terminal) → binder_word t.kind ≡ Some b → HasRoom w l → Derives w (list Item.BareVariable) (held l) vs bs k
+pub bare_binder_begun : {w : Limit} {l k : Nesting} {vs p : Tokens} {bs : List Binding} {b : BinderWord} {t : Terminal} (c : Terminal) → binder_word t.kind ≡ Some b → HasRoom w l → Derives w (list Item.BareVariable) (with_lasting_mark l) vs bs k
     → Is kind.Colon c → Begun w (λ e. Form.Chain connective.Iff e) k p → Begun w (λ e. Form.Prefixed e) l (t ∷ (vs ++ c ∷ p))
 bare_binder_begun {l = l} {k = k} {vs = vs} {bs = bs} {b = b} {t = t} c is lt d colon g =
     let z = g.1 in (Bound, made (put refl (glue both (put refl z.split))) (Derives.bare_binder g.0 l k z.behind vs z.all bs z.tree b t c is lt d colon z.derives))
 
-pub let_begun : {w : Limit} {l : Nesting} {p : Tokens} {t : Terminal} → Is kind.Let t → HasRoom w l → Completes w (list Item.Definition) (held l) p → Begun w (λ e. Form.Prefixed e) l (t ∷ p)
+pub let_begun : {w : Limit} {l : Nesting} {p : Tokens} {t : Terminal} → Is kind.Let t → HasRoom w l → Completes w (list Item.Definition) (with_lasting_mark l) p → Begun w (λ e. Form.Prefixed e) l (t ∷ p)
 let_begun {w = w} {l = l} {t = t} is lt c = (
   Bound,
   made (put refl (extend (tok kind.In ∷ true_tokens) c.split))
       (Derives.let_in Plain l c.behind c.behind c.all true_tokens c.tree true_tree t (tok kind.In) is lt c.derives refl (true_whole w c.behind)),
 )
 
-pub in_begun : {w : Limit} {l k : Nesting} {vs p : Tokens} {ps : List LetPart} {t : Terminal} (u : Terminal) → Is kind.Let t → HasRoom w l → Derives w (list Item.Definition) (held l) vs ps k → Is kind.In u → Begun w (λ e. Form.Chain connective.Iff e) k p
+pub in_begun : {w : Limit} {l k : Nesting} {vs p : Tokens} {ps : List LetPart} {t : Terminal} (u : Terminal) → Is kind.Let t → HasRoom w l → Derives w (list Item.Definition) (with_lasting_mark l) vs ps k → Is kind.In u → Begun w (λ e. Form.Chain connective.Iff e) k p
     → Begun w (λ e. Form.Prefixed e) l (t ∷ (vs ++ u ∷ p))
 in_begun {l = l} {k = k} {vs = vs} {ps = ps} {t = t} u is lt d in_ g =
     let z = g.1 in (Bound, made (put refl (glue both (put refl z.split))) (Derives.let_in g.0 l k z.behind vs z.all ps z.tree t u is lt d in_ z.derives))
@@ -442,19 +442,19 @@ compared_begun {l = l} c = (Plain, made c.split (Derives.compared l c.behind c.a
 pub term_begun : {w : Limit} {l : Nesting} {p : Tokens} → TermBegun w l p → Begun w (λ e. Form.Operand e) l p
 term_begun {l = l} g = let c = g.1 in compared_begun (made c.split (Derives.term g.0 l c.behind c.all c.tree c.derives))
 
-pub compares_begun : {w : Limit} {l k : Nesting} {vs p : Tokens} {x : Expr} {o : InfixWord} (t : Terminal) → Derives w (form Form.Comparisons) l vs x k → comparison t.kind ≡ Some o → HasRoom w k → TermBegun w (marked k) p → Begun w (λ e. Form.Operand e) l (vs ++ t ∷ p)
+pub compares_begun : {w : Limit} {l k : Nesting} {vs p : Tokens} {x : Expr} {o : InfixWord} (t : Terminal) → Derives w (form Form.Comparisons) l vs x k → comparison t.kind ≡ Some o → HasRoom w k → TermBegun w (with_mark k) p → Begun w (λ e. Form.Operand e) l (vs ++ t ∷ p)
 compares_begun {l = l} {k = k} {vs = vs} {x = x} {o = o} t d is lt g =
     let c = g.1 in compared_begun (made (glue both (put refl c.split)) (Derives.compares g.0 l k c.behind vs c.all x c.tree o t d is lt c.derives))
 
-pub compared_prefixed_begun : {w : Limit} {l k : Nesting} {vs p : Tokens} {x : Expr} {o : InfixWord} (t : Terminal) → Derives w (form Form.Comparisons) l vs x k → comparison t.kind ≡ Some o → HasRoom w k → Begun w (λ e. Form.Prefixed e) (marked k) p
+pub compared_prefixed_begun : {w : Limit} {l k : Nesting} {vs p : Tokens} {x : Expr} {o : InfixWord} (t : Terminal) → Derives w (form Form.Comparisons) l vs x k → comparison t.kind ≡ Some o → HasRoom w k → Begun w (λ e. Form.Prefixed e) (with_mark k) p
     → Begun w (λ e. Form.Operand e) l (vs ++ t ∷ p)
 compared_prefixed_begun {l = l} {k = k} {vs = vs} {x = x} {o = o} t d is lt g =
     let c = g.1 in (g.0, made (glue both (put refl c.split)) (Derives.compared_prefixed g.0 l k c.behind vs c.all x c.tree o t d is lt c.derives))
 
-pub alone_begun : {w : Limit} (c : Connective) {l : Nesting} {p : Tokens} → Begun w (λ e. tighter c e) l p → Begun w (λ e. Form.Chain c e) l p
+pub alone_begun : {w : Limit} (c : Connective) {l : Nesting} {p : Tokens} → Begun w (λ e. operand_form c e) l p → Begun w (λ e. Form.Chain c e) l p
 alone_begun c {l = l} g = let z = g.1 in (g.0, made z.split (Derives.alone c g.0 l z.behind z.all z.tree z.derives))
 
-pub joined_begun : {w : Limit} (c : Connective) {l k : Nesting} {vs p : Tokens} {x : Expr} (t : Terminal) → Derives w (form (tighter c Plain)) l vs x k → Is (sign c) t → HasRoom w k → Begun w (λ e. Form.Chain c e) (marked k) p
+pub joined_begun : {w : Limit} (c : Connective) {l k : Nesting} {vs p : Tokens} {x : Expr} (t : Terminal) → Derives w (form (operand_form c Plain)) l vs x k → Is (sign c) t → HasRoom w k → Begun w (λ e. Form.Chain c e) (with_mark k) p
     → Begun w (λ e. Form.Chain c e) l (vs ++ t ∷ p)
 joined_begun c {l = l} {k = k} {vs = vs} {x = x} t d is lt g =
     let z = g.1 in (g.0, made (glue both (put refl z.split)) (Derives.joined c g.0 l k z.behind vs z.all x z.tree t d is lt z.derives))
@@ -464,35 +464,35 @@ joined_begun c {l = l} {k = k} {vs = vs} {x = x} t d is lt g =
 pub name_type_begun : {w : Limit} {l : Nesting} {p : Tokens} → Completes w name l p → Completes w type_ l p
 name_type_begun {l = l} c = made c.split (Derives.name_type l c.behind c.all c.tree c.derives)
 
-pub pred_begun : {w : Limit} {l : Nesting} {p : Tokens} {t : Terminal} → Is kind.Open t → HasRoom w l → Completes w (item Item.Expression) (inside l) p → Completes w type_ l (t ∷ p)
+pub pred_begun : {w : Limit} {l : Nesting} {p : Tokens} {t : Terminal} → Is kind.Open t → HasRoom w l → Completes w (item Item.Expression) (in_frame l) p → Completes w type_ l (t ∷ p)
 pred_begun {l = l} {t = t} is lt c = made (put refl (extend (tok kind.Close ∷ []) c.split)) (Derives.pred_type l c.behind c.all c.tree t (tok kind.Close) is lt c.derives refl)
 
 -- { id : type
-pub base_begun : {w : Limit} {l : Nesting} {p : Tokens} {t u v : Terminal} → Is kind.OpenBrace t → HasRoom w l → IsId u → Is kind.Colon v → Completes w type_ (inside l) p → Completes w type_ l (t ∷ u ∷ v ∷ p)
+pub base_begun : {w : Limit} {l : Nesting} {p : Tokens} {t u v : Terminal} → Is kind.OpenBrace t → HasRoom w l → IsId u → Is kind.Colon v → Completes w type_ (in_frame l) p → Completes w type_ l (t ∷ u ∷ v ∷ p)
 base_begun {w = w} {l = l} {t = t} {u = u} {v = v} is lt id colon c =
     made (put refl (put refl (put refl (extend (tok kind.Bar ∷ (true_tokens ++ tok kind.CloseBrace ∷ [])) c.split))))
     (Derives.sub_type l c.behind c.behind c.all true_tokens c.tree true_tree t u v (tok kind.Bar) (tok kind.CloseBrace) is lt id colon c.derives refl (true_item w c.behind) refl)
 
 pub brace_begun : {w : Limit} {l : Nesting} {t : Terminal} → Is kind.OpenBrace t → HasRoom w l → Completes w type_ l (t ∷ [])
 brace_begun {w = w} {l = l} {t = t} is lt =
-    made (put refl nothing) (Derives.sub_type l (inside l) (inside l) id_tokens true_tokens id_tree true_tree t (tok kind.Id) (tok kind.Colon) (tok kind.Bar) (tok kind.CloseBrace) is lt refl refl (id_type w (inside l)) refl (true_item w (inside l)) refl)
+    made (put refl nothing) (Derives.sub_type l (in_frame l) (in_frame l) id_tokens true_tokens id_tree true_tree t (tok kind.Id) (tok kind.Colon) (tok kind.Bar) (tok kind.CloseBrace) is lt refl refl (id_type w (in_frame l)) refl (true_item w (in_frame l)) refl)
 
 pub brace_id_begun : {w : Limit} {l : Nesting} {t u : Terminal} → Is kind.OpenBrace t → HasRoom w l → IsId u → Completes w type_ l (t ∷ u ∷ [])
 brace_id_begun {w = w} {l = l} {t = t} {u = u} is lt id =
-    made (put refl (put refl nothing)) (Derives.sub_type l (inside l) (inside l) id_tokens true_tokens id_tree true_tree t u (tok kind.Colon) (tok kind.Bar) (tok kind.CloseBrace) is lt id refl (id_type w (inside l)) refl (true_item w (inside l)) refl)
+    made (put refl (put refl nothing)) (Derives.sub_type l (in_frame l) (in_frame l) id_tokens true_tokens id_tree true_tree t u (tok kind.Colon) (tok kind.Bar) (tok kind.CloseBrace) is lt id refl (id_type w (in_frame l)) refl (true_item w (in_frame l)) refl)
 
-pub sub_begun : {w : Limit} {l k : Nesting} {vs p : Tokens} {a : TypeExpr} {t u v : Terminal} (y : Terminal) → Is kind.OpenBrace t → HasRoom w l → IsId u → Is kind.Colon v → Derives w type_ (inside l) vs a k → Is kind.Bar y → Completes w (item Item.Expression) k p
+pub sub_begun : {w : Limit} {l k : Nesting} {vs p : Tokens} {a : TypeExpr} {t u v : Terminal} (y : Terminal) → Is kind.OpenBrace t → HasRoom w l → IsId u → Is kind.Colon v → Derives w type_ (in_frame l) vs a k → Is kind.Bar y → Completes w (item Item.Expression) k p
     → Completes w type_ l (t ∷ u ∷ v ∷ (vs ++ y ∷ p))
 sub_begun {l = l} {k = k} {vs = vs} {a = a} {t = t} {u = u} {v = v} y is lt id colon d bar c =
     made (put refl (put refl (put refl (glue both (put refl (extend (tok kind.CloseBrace ∷ []) c.split))))))
     (Derives.sub_type l k c.behind vs c.all a c.tree t u v y (tok kind.CloseBrace) is lt id colon d bar c.derives refl)
 
-pub domain_begun : {w : Limit} {l : Nesting} {p : Tokens} {t : Terminal} → Is kind.OpenBracket t → HasRoom w l → Completes w (list Item.Component) (inside l) p → Completes w type_ l (t ∷ p)
+pub domain_begun : {w : Limit} {l : Nesting} {p : Tokens} {t : Terminal} → Is kind.OpenBracket t → HasRoom w l → Completes w (list Item.Component) (in_frame l) p → Completes w type_ l (t ∷ p)
 domain_begun {w = w} {l = l} {t = t} is lt c =
     made (put refl (extend (tok kind.Arrow ∷ (id_tokens ++ tok kind.CloseBracket ∷ [])) c.split))
     (Derives.fun_type l c.behind c.behind c.all id_tokens c.tree id_tree t (tok kind.Arrow) (tok kind.CloseBracket) is lt c.derives refl (id_type w c.behind) refl)
 
-pub range_begun : {w : Limit} {l k : Nesting} {vs p : Tokens} {bs : List Binding} {t : Terminal} (u : Terminal) → Is kind.OpenBracket t → HasRoom w l → Derives w (list Item.Component) (inside l) vs bs k → Is kind.Arrow u → Completes w type_ k p
+pub range_begun : {w : Limit} {l k : Nesting} {vs p : Tokens} {bs : List Binding} {t : Terminal} (u : Terminal) → Is kind.OpenBracket t → HasRoom w l → Derives w (list Item.Component) (in_frame l) vs bs k → Is kind.Arrow u → Completes w type_ k p
     → Completes w type_ l (t ∷ (vs ++ u ∷ p))
 range_begun {l = l} {k = k} {vs = vs} {bs = bs} {t = t} u is lt d arrow c =
     made (put refl (glue both (put refl (extend (tok kind.CloseBracket ∷ []) c.split))))

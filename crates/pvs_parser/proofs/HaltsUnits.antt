@@ -21,7 +21,7 @@ use Rattle.pvs_parser.proofs.HaltsBegins.{extend}
 use Rattle.pvs_parser.proofs.HaltsUnitsWiden.{widen_theory, widen_proof}
 use Rattle.pvs_parser.proofs.HaltsUnitsEnds.{is_end, last_is_end, last_of}
 use Rattle.pvs_parser.proofs.HaltsUnitsParts.{Starts, started}
-use Rattle.pvs_parser.specs.Faults.{BehindEnd}
+use Rattle.pvs_parser.specs.Faults.{AwaitsName}
 use Rattle.pvs_parser.proofs.HaltsUnitsSteps.{TextWhy, TextHalts, text_into}
 use Rattle.pvs_parser.proofs.HaltsUnitsTheories.{TheoryBegun, theory_stops}
 use Rattle.pvs_parser.proofs.HaltsUnitsProofs.{ProofBegun, proof_stops}
@@ -71,9 +71,9 @@ UnitBegun w text p = (more : Tokens) × (u : tree.Unit) × DerivesUnit w text (p
 -- Why reading stops between these tokens: an identifier is unexpected only where no END stands before it; a token that is too much is no comma,
 -- and one with which the tokens before it can be completed without a limit; a wrong end is an identifier behind END.
 abbrev pub UnitWhy : List ℕ → Tokens → Tokens → Reason → Type 0
-UnitWhy text before rest reason.Unexpected = (t : Terminal) (more : Tokens) → rest ≡ t ∷ more → IsId t → BehindEnd before → ⊥
+UnitWhy text before rest reason.Unexpected = (t : Terminal) (more : Tokens) → rest ≡ t ∷ more → IsId t → AwaitsName before → ⊥
 UnitWhy text before rest reason.TooNested = (t : Terminal) × (more : Tokens) × (rest ≡ t ∷ more) × NoComma t × UnitBegun None text (before ++ t ∷ [])
-UnitWhy text before rest reason.WrongEnd = (t : Terminal) × (more : Tokens) × (rest ≡ t ∷ more) × IsId t × BehindEnd before
+UnitWhy text before rest reason.WrongEnd = (t : Terminal) × (more : Tokens) × (rest ≡ t ∷ more) × IsId t × AwaitsName before
 
 -- The tokens before a stop can be completed to a unit: without a limit; and within the limit, or else they are such tokens and the comma behind the last
 -- entry that a list may have.
@@ -100,7 +100,7 @@ items_within text before (inr g) = inr (record {
 })
 
 -- tokens that end in END end in it
-ends_so : (before : Tokens) → BehindEnd before → last_is_end true before ≡ false → ⊥
+ends_so : (before : Tokens) → AwaitsName before → last_is_end true before ≡ false → ⊥
 ends_so before b plain = let e : last_is_end true before ≡ true = ap (last_is_end true) b.2 ∙ last_of true b.0 (b.1 ∷ []) ∙ ap is_end b.3 in cc
 
 items_why : (text : List ℕ) (before rest : Tokens) (r : Reason) → TextWhy (ItemsBegun text) before rest r → UnitWhy text before rest r

@@ -12,11 +12,11 @@ use Rattle.pvs_syntax.specs.declared.unit.FormulaWord.{FormulaWord}
 use Rattle.pvs_syntax.specs.declared.unit.FormulaWord.TheVariants as formula_word
 use Rattle.pvs_parser.specs.Terminals.{Is, IsId}
 use Rattle.pvs_parser.specs.Language as l
-use Rattle.pvs_parser.specs.Language.{Limit, Tokens, IsBelow, HasRoom, Derives, Form, Item, type_, outermost, inside}
+use Rattle.pvs_parser.specs.Language.{Limit, Tokens, IsBelow, HasRoom, Derives, Form, Item, type_, outermost, in_frame}
 use Rattle.pvs_parser.specs.Units.{DerivesIds, DerivesTypeWord, DerivesVariables, DerivesParameters, DerivesBody, DerivesDecl, DerivesAssumed, formula_of}
 use Rattle.pvs_parser.specs.Descent.{expect}
 use Rattle.pvs_base.specs.Answers.{◌>>=◌}
-use Rattle.pvs_parser.specs.UnitDescent.{type, ids, variables, body, constant, function, constants, types, formulas, stated, declared_of, declared, named, begun, declaration, assumed_of, assumed_after, assumed}
+use Rattle.pvs_parser.specs.UnitDescent.{type, ids, variables, body, constant, function, constants, types, formulas, formulas_or_constants, decls_of_kind, decls_after_colon, declaration_of_names, declaration_from_id, declaration, assuming_decls_of_kind, assuming_decls_after_colon, assuming_decl}
 use Rattle.pvs_parser.proofs.Gets.{both}
 use Rattle.pvs_parser.proofs.DescentSteps.{after_yields, glue, put, alone, nothing}
 use Rattle.pvs_parser.proofs.DescentSound.{moved}
@@ -72,7 +72,7 @@ constant_body : {w : Limit} {ps us p : Tokens} {bs : List Binding} {a : TypeExpr
 constant_body {ps = ps} {us = us} {bs = bs} {a = a} {m = m} t u is d colon e g =
     started _ (put refl (glue both (put refl (glue both g.split)))) (DerivesDecl.constant ps us g.all bs a g.tree m t u is d colon e g.derives)
 
-function_begun : {w : Limit} {p : Tokens} (t v : Terminal) → IsId t → Is kind.Open v → HasRoom w outermost → Completes w (l.list Item.Variable) (inside outermost) p → DeclBegun w (t ∷ v ∷ p)
+function_begun : {w : Limit} {p : Tokens} (t v : Terminal) → IsId t → Is kind.Open v → HasRoom w outermost → Completes w (l.list Item.Variable) (in_frame outermost) p → DeclBegun w (t ∷ v ∷ p)
 function_begun {w = w} t v is opened lt c =
     started _ (put refl (put refl (extend (tok kind.Colon ∷ (id_tokens ++ [])) (extend (tok kind.Close ∷ []) c.split))))
     (DerivesDecl.constant (v ∷ (c.all ++ tok kind.Close ∷ [])) id_tokens [] c.tree id_tree None outermost t (tok kind.Colon) is (DerivesParameters.parameters c.all c.tree c.behind v (tok kind.Close) opened lt c.derives refl) refl (id_type w outermost) DerivesBody.none)
@@ -152,7 +152,7 @@ formulas_stops limit ns (w ∷ []) u t f d {ts = ts} place before k =
 formulas_stops limit ns (w ∷ v ∷ ws) u t f d place before k = stopped (unexpected (upto place nothing) before)
 
 stated_stops : (limit : Limit) (ns : Tokens) (ws : List Word) (u t : Terminal) (ts : Tokens) → DerivesIds limit ns ws → Is kind.Colon u → {all : Tokens} → Place all (λ p. ns ++ u ∷ p) (t ∷ ts) → (o : Option FormulaWord) → formula_of t.kind ≡ o
-    → Stops (stated limit ws t ts o) (Halts limit DeclBegun all)
+    → Stops (formulas_or_constants limit ws t ts o) (Halts limit DeclBegun all)
 stated_stops limit ns ws u t ts d colon place (Some f) is =
     formulas_stops limit ns ws u t f d place (λ w wide. decl_colon u (widen_ids wide ns ws d) colon) (λ v id w wide p g. formula_begun v u t id colon is g)
 stated_stops limit ns ws u t ts d colon place None is = constants_stops limit ns ws u d colon place
@@ -160,23 +160,23 @@ stated_stops limit ns ws u t ts d colon place None is = constants_stops limit ns
 -- ---- one declaration
 
 declared_of_stops : (limit : Limit) (ns : Tokens) (ws : List Word) (u t : Terminal) (ts : Tokens) → DerivesIds limit ns ws → Is kind.Colon u → {all : Tokens} → Place all (λ p. ns ++ u ∷ p) (t ∷ ts) → (k : TerminalKind) → t.kind ≡ k
-    → Stops (declared_of limit ws t ts k) (Halts limit DeclBegun all)
+    → Stops (decls_of_kind limit ws t ts k) (Halts limit DeclBegun all)
 declared_of_stops limit ns ws u t ts d colon place kind.Type is = types_stops limit ns ws u t d colon is place
 declared_of_stops limit ns ws u t ts d colon place kind.NonemptyType is = goes
 declared_of_stops limit ns ws u t ts d colon place kind.Var is =
     into (variables_stops limit ns ws u t d colon is (onto place refl)) first (λ w wide p g. other_form (λ x. x) (λ ts ds d. DerivesDecl.variables ts ds d) g)
 declared_of_stops limit ns ws u t ts d colon place k is = stated_stops limit ns ws u t ts d colon place (formula_of k) (ap formula_of is)
 
-declared_stops : (limit : Limit) (ns : Tokens) (ws : List Word) (u : Terminal) (ts : Tokens) → DerivesIds limit ns ws → Is kind.Colon u → {all : Tokens} → Place all (λ p. ns ++ u ∷ p) ts → Stops (declared limit ws ts) (Halts limit DeclBegun all)
+declared_stops : (limit : Limit) (ns : Tokens) (ws : List Word) (u : Terminal) (ts : Tokens) → DerivesIds limit ns ws → Is kind.Colon u → {all : Tokens} → Place all (λ p. ns ++ u ∷ p) ts → Stops (decls_after_colon limit ws ts) (Halts limit DeclBegun all)
 declared_stops limit ns ws u [] d colon place = stopped (unexpected (upto place nothing) (λ w wide. decl_colon u (widen_ids wide ns ws d) colon))
 declared_stops limit ns ws u (t ∷ ts) d colon place = declared_of_stops limit ns ws u t ts d colon place t.kind refl
 
-named_stops : (limit : Limit) → IsBelow limit 0 → (ts : Tokens) → Stops (named limit ts) (Halts limit DeclBegun ts)
+named_stops : (limit : Limit) → IsBelow limit 0 → (ts : Tokens) → Stops (declaration_of_names limit ts) (Halts limit DeclBegun ts)
 named_stops limit some ts = bind (ids_sound limit ts) (into (ids_stops limit some ts) first (λ w wide p g. decl_names g)) (λ p f.
     expect_then kind.Colon p.1 _ (unexpected f.1 (λ w wide. decl_names (whole_of _ (widen_ids wide f.0 p.0 f.2)))) (λ us c.
     declared_stops limit f.0 p.0 c.0 us f.2 c.2 (past f.1 (behind c.1 first))))
 
-begun_stops : (limit : Limit) → IsBelow limit 0 → (ts : Tokens) → Stops (begun limit ts) (Halts limit DeclBegun ts)
+begun_stops : (limit : Limit) → IsBelow limit 0 → (ts : Tokens) → Stops (declaration_from_id limit ts) (Halts limit DeclBegun ts)
 begun_stops limit some ts = id_then ts _ (unexpected nothing (λ w wide. decl_names some_names)) (λ t us e is. cases
     (λ vs a. let c = (after_yields kind.Open us).holds vs a in function_stops limit t c.0 ts us vs e is c.1 c.2)
     (λ a. named_stops limit some ts))
@@ -189,23 +189,23 @@ declaration_stops limit some ts = cases
 -- ---- one declaration of an assuming part
 
 assumed_of_stops : (limit : Limit) (ns : Tokens) (ws : List Word) (u t : Terminal) (ts : Tokens) → DerivesIds limit ns ws → Is kind.Colon u → {all : Tokens} → Place all (λ p. ns ++ u ∷ p) (t ∷ ts) → (k : TerminalKind) → t.kind ≡ k
-    → Stops (assumed_of limit ws t ts k) (Halts limit AssumedBegun all)
+    → Stops (assuming_decls_of_kind limit ws t ts k) (Halts limit AssumedBegun all)
 assumed_of_stops limit ns ws u t ts d colon place kind.Var is =
     into (variables_stops limit ns ws u t d colon is (onto place refl)) first (λ w wide p g. other_form (λ x. x) (λ ts ds d. DerivesAssumed.variables ts ds d) g)
 assumed_of_stops limit ns ws u t ts d colon place kind.Assumption is =
     formulas_stops limit ns ws u t formula_word.Assumption d place (λ w wide. assumed_colon u (widen_ids wide ns ws d) colon) (λ v id w wide p g. assumption_begun v u t id colon is g)
 assumed_of_stops limit ns ws u t ts d colon place _ is = stopped (unexpected (upto place nothing) (λ w wide. assumed_colon u (widen_ids wide ns ws d) colon))
 
-assumed_after_stops : (limit : Limit) (ns : Tokens) (ws : List Word) (u : Terminal) (ts : Tokens) → DerivesIds limit ns ws → Is kind.Colon u → {all : Tokens} → Place all (λ p. ns ++ u ∷ p) ts → Stops (assumed_after limit ws ts) (Halts limit AssumedBegun all)
+assumed_after_stops : (limit : Limit) (ns : Tokens) (ws : List Word) (u : Terminal) (ts : Tokens) → DerivesIds limit ns ws → Is kind.Colon u → {all : Tokens} → Place all (λ p. ns ++ u ∷ p) ts → Stops (assuming_decls_after_colon limit ws ts) (Halts limit AssumedBegun all)
 assumed_after_stops limit ns ws u [] d colon place = stopped (unexpected (upto place nothing) (λ w wide. assumed_colon u (widen_ids wide ns ws d) colon))
 assumed_after_stops limit ns ws u (t ∷ ts) d colon place = assumed_of_stops limit ns ws u t ts d colon place t.kind refl
 
-assumed_named_stops : (limit : Limit) → IsBelow limit 0 → (ts : Tokens) → Stops (ids limit ts >>= λ p. expect kind.Colon p.1 >>= λ us. assumed_after limit p.0 us) (Halts limit AssumedBegun ts)
+assumed_named_stops : (limit : Limit) → IsBelow limit 0 → (ts : Tokens) → Stops (ids limit ts >>= λ p. expect kind.Colon p.1 >>= λ us. assuming_decls_after_colon limit p.0 us) (Halts limit AssumedBegun ts)
 assumed_named_stops limit some ts = bind (ids_sound limit ts) (into (ids_stops limit some ts) first (λ w wide p g. assumed_names g)) (λ p f.
     expect_then kind.Colon p.1 _ (unexpected f.1 (λ w wide. assumed_names (whole_of _ (widen_ids wide f.0 p.0 f.2)))) (λ us c.
     assumed_after_stops limit f.0 p.0 c.0 us f.2 c.2 (past f.1 (behind c.1 first))))
 
-pub assumed_stops : (limit : Limit) → IsBelow limit 0 → (ts : Tokens) → Stops (assumed limit ts) (Halts limit AssumedBegun ts)
+pub assumed_stops : (limit : Limit) → IsBelow limit 0 → (ts : Tokens) → Stops (assuming_decl limit ts) (Halts limit AssumedBegun ts)
 assumed_stops limit some ts = cases
     (λ us a. let c = (after_yields kind.Importing ts).holds us a in into (importing_stops limit c.0 ts us c.1 c.2) first (λ w wide p g. other_form (λ x. x) (λ ts ds d. DerivesAssumed.importing ts ds d) g))
     (λ a. assumed_named_stops limit some ts)

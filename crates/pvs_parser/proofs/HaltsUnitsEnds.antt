@@ -16,7 +16,7 @@ use Rattle.pvs_syntax.specs.declared.unit.Decl.{Decl}
 use Rattle.pvs_syntax.specs.declared.unit.Formal.{Formal}
 use Rattle.pvs_syntax.specs.declared.unit.FormulaWord.{FormulaWord}
 use Rattle.pvs_parser.specs.Terminals.{IsId, is_id}
-use Rattle.pvs_parser.specs.Language.{Limit, Tokens, Derives, Plain, Form, Item, Nonterminal, form, item, list, name, inst, type_, Tree, held, cleared, inside, marked, before_call, tighter, sign, comparison, binder_word, whole, outermost}
+use Rattle.pvs_parser.specs.Language.{Limit, Tokens, Derives, Plain, Form, Item, Nonterminal, form, item, list, name, inst, type_, TreeOf, with_lasting_mark, without_marks, in_frame, with_mark, before_call, operand_form, sign, comparison, binder_word, whole, outermost}
 use Rattle.pvs_parser.specs.Units.{DerivesIds, DerivesTypeWord, DerivesFormal, DerivesFormals, DerivesFormalPart, DerivesInstances, DerivesImporting, DerivesVariables, DerivesParameters, DerivesBody, DerivesDecl, DerivesAssumed, DerivesSemicolon, DerivesMany, DerivesAssuming, formula_of}
 
 -- ---- tokens of which none is END
@@ -65,53 +65,53 @@ sign_kind connective.And = refl
 
 -- ---- expressions and types
 
-pub no_end : {limit : Limit} (s : Nonterminal) (l : Nesting) (ts : Tokens) (x : Tree s) (m : Nesting) → Derives limit s l ts x m → NoEnd ts
+pub no_end : {limit : Limit} (s : Nonterminal) (l : Nesting) (ts : Tokens) (x : TreeOf s) (m : Nesting) → Derives limit s l ts x m → NoEnd ts
 no_end _ _ _ _ _ (Derives.one i l m ts x d) = no_end (item i) l ts x m d
-no_end _ _ _ _ _ (Derives.more i l k m ts us x xs t d is e lt) = joined ts (t ∷ us) (no_end (item i) l ts x k d) (ap is_end is, no_end (list i) (cleared k) us xs m e)
+no_end _ _ _ _ _ (Derives.more i l k m ts us x xs t d is e lt) = joined ts (t ∷ us) (no_end (item i) l ts x k d) (ap is_end is, no_end (list i) (without_marks k) us xs m e)
 no_end _ _ _ _ _ (Derives.expression e l m ts x d) = no_end (whole e) l ts x m d
-no_end _ _ _ _ _ (Derives.alone c e l m ts x d) = no_end (form (tighter c e)) l ts x m d
+no_end _ _ _ _ _ (Derives.alone c e l m ts x d) = no_end (form (operand_form c e)) l ts x m d
 no_end _ _ _ _ _ (Derives.joined c e l k m ts us x y t d is lt f) =
-    joined ts (t ∷ us) (no_end (form (tighter c Plain)) l ts x k d) (ap is_end is ∙ sign_kind c, no_end (form (Form.Chain c e)) (marked k) us y m f)
+    joined ts (t ∷ us) (no_end (form (operand_form c Plain)) l ts x k d) (ap is_end is ∙ sign_kind c, no_end (form (Form.Chain c e)) (with_mark k) us y m f)
 no_end _ _ _ _ _ (Derives.compared l m ts x d) = no_end (form Form.Comparisons) l ts x m d
 no_end _ _ _ _ _ (Derives.prefixed e l m ts x d) = no_end (form (Form.Prefixed e)) l ts x m d
 no_end _ _ _ _ _ (Derives.compared_prefixed e l k m ts us x y w t d is lt f) =
-    joined ts (t ∷ us) (no_end (form Form.Comparisons) l ts x k d) (comparison_kind t.kind w is, no_end (form (Form.Prefixed e)) (marked k) us y m f)
+    joined ts (t ∷ us) (no_end (form Form.Comparisons) l ts x k d) (comparison_kind t.kind w is, no_end (form (Form.Prefixed e)) (with_mark k) us y m f)
 no_end _ _ _ _ _ (Derives.term b l m ts x d) = no_end (form (Form.Term b)) l ts x m d
 no_end _ _ _ _ _ (Derives.compares b l k m ts us x y w t d is lt f) =
-    joined ts (t ∷ us) (no_end (form Form.Comparisons) l ts x k d) (comparison_kind t.kind w is, no_end (form (Form.Term b)) (marked k) us y m f)
-no_end _ _ _ _ _ (Derives.not e l m ts x t is lt d) = (ap is_end is, no_end (form (Form.Operand e)) (marked l) ts x m d)
+    joined ts (t ∷ us) (no_end (form Form.Comparisons) l ts x k d) (comparison_kind t.kind w is, no_end (form (Form.Term b)) (with_mark k) us y m f)
+no_end _ _ _ _ _ (Derives.not e l m ts x t is lt d) = (ap is_end is, no_end (form (Form.Operand e)) (with_mark l) ts x m d)
 no_end _ _ _ _ _ (Derives.binder e l k m ts us bs x w t u v c is lt opened lt2 d close colon f) =
-    (binder_kind t.kind w is, (ap is_end opened, joined ts (v ∷ c ∷ us) (no_end (list Item.Variable) (inside (held l)) ts bs k d) (ap is_end close, (ap is_end colon, no_end (whole e) (held l) us x m f))))
+    (binder_kind t.kind w is, (ap is_end opened, joined ts (v ∷ c ∷ us) (no_end (list Item.Variable) (in_frame (with_lasting_mark l)) ts bs k d) (ap is_end close, (ap is_end colon, no_end (whole e) (with_lasting_mark l) us x m f))))
 no_end _ _ _ _ _ (Derives.bare_binder e l k m ts us bs x w t c is lt d colon f) =
-    (binder_kind t.kind w is, joined ts (c ∷ us) (no_end (list Item.BareVariable) (held l) ts bs k d) (ap is_end colon, no_end (whole e) k us x m f))
+    (binder_kind t.kind w is, joined ts (c ∷ us) (no_end (list Item.BareVariable) (with_lasting_mark l) ts bs k d) (ap is_end colon, no_end (whole e) k us x m f))
 no_end _ _ _ _ _ (Derives.let_in e l k m ts us ps x t u is lt d in_ f) =
-    (ap is_end is, joined ts (u ∷ us) (no_end (list Item.Definition) (held l) ts ps k d) (ap is_end in_, no_end (whole e) k us x m f))
+    (ap is_end is, joined ts (u ∷ us) (no_end (list Item.Definition) (with_lasting_mark l) ts ps k d) (ap is_end in_, no_end (whole e) k us x m f))
 no_end _ _ _ _ _ (Derives.truth l t is) = (ap is_end is, tt)
 no_end _ _ _ _ _ (Derives.falsity l t is) = (ap is_end is, tt)
 no_end _ _ _ _ _ (Derives.name_term l m ts x d) = no_end name l ts x m d
-no_end _ _ _ _ _ (Derives.group l k ts xs t u is lt d close) = (ap is_end is, joined ts (u ∷ []) (no_end (list Item.Expression) (inside l) ts xs k d) (ap is_end close, tt))
+no_end _ _ _ _ _ (Derives.group l k ts xs t u is lt d close) = (ap is_end is, joined ts (u ∷ []) (no_end (list Item.Expression) (in_frame l) ts xs k d) (ap is_end close, tt))
 no_end _ _ _ _ _ (Derives.cond l k j m ts us vs c x y t u is lt d behind e f) =
-    (ap is_end is, joined ts (u ∷ (us ++ vs)) (no_end (item Item.Expression) (inside l) ts c k d) (ap is_end behind, joined us vs (no_end (item Item.Expression) (cleared k) us x j e) (no_end (form Form.Otherwise) j vs y m f)))
-no_end _ _ _ _ _ (Derives.else_ l m ts x t u is d end) = (ap is_end is, joined ts (u ∷ []) (no_end (item Item.Expression) (cleared l) ts x m d) (ap is_end end, tt))
+    (ap is_end is, joined ts (u ∷ (us ++ vs)) (no_end (item Item.Expression) (in_frame l) ts c k d) (ap is_end behind, joined us vs (no_end (item Item.Expression) (without_marks k) us x j e) (no_end (form Form.Otherwise) j vs y m f)))
+no_end _ _ _ _ _ (Derives.else_ l m ts x t u is d end) = (ap is_end is, joined ts (u ∷ []) (no_end (item Item.Expression) (without_marks l) ts x m d) (ap is_end end, tt))
 no_end _ _ _ _ _ (Derives.elsif l k j m ts us vs c x y t u is lt d behind e f) =
-    (ap is_end is, joined ts (u ∷ (us ++ vs)) (no_end (item Item.Expression) (held (cleared l)) ts c k d) (ap is_end behind, joined us vs (no_end (item Item.Expression) (cleared k) us x j e) (no_end (form Form.Otherwise) j vs y m f)))
+    (ap is_end is, joined ts (u ∷ (us ++ vs)) (no_end (item Item.Expression) (with_lasting_mark (without_marks l)) ts c k d) (ap is_end behind, joined us vs (no_end (item Item.Expression) (without_marks k) us x j e) (no_end (form Form.Otherwise) j vs y m f)))
 no_end _ _ _ _ _ (Derives.call b l k j ts us f xs t u d is lt e close) =
-    joined ts (t ∷ (us ++ u ∷ [])) (no_end (form (Form.Term b)) l ts f k d) (ap is_end is, joined us (u ∷ []) (no_end (list Item.Expression) (inside (before_call b k)) us xs j e) (ap is_end close, tt))
+    joined ts (t ∷ (us ++ u ∷ [])) (no_end (form (Form.Term b)) l ts f k d) (ap is_end is, joined us (u ∷ []) (no_end (list Item.Expression) (in_frame (before_call b k)) us xs j e) (ap is_end close, tt))
 no_end _ _ _ _ _ (Derives.project b l k ts x t u d is lt number) = joined ts (t ∷ u ∷ []) (no_end (form (Form.Term b)) l ts x k d) (ap is_end is, (ap is_end number, tt))
 no_end _ _ _ _ _ (Derives.plain_name l t is) = (id_is_no_end t is, tt)
 no_end _ _ _ _ _ (Derives.qualified_name l m ts i t u d dot is) = joined ts (t ∷ u ∷ []) (no_end inst l ts i m d) (ap is_end dot, (id_is_no_end u is, tt))
 no_end _ _ _ _ _ (Derives.plain_inst l t is) = (id_is_no_end t is, tt)
 no_end _ _ _ _ _ (Derives.inst_with l k ts xs t u v is opened lt d close) =
-    (id_is_no_end t is, (ap is_end opened, joined ts (v ∷ []) (no_end (list Item.Parameter) (inside l) ts xs k d) (ap is_end close, tt)))
+    (id_is_no_end t is, (ap is_end opened, joined ts (v ∷ []) (no_end (list Item.Parameter) (in_frame l) ts xs k d) (ap is_end close, tt)))
 no_end _ _ _ _ _ (Derives.expr_actual e l m ts x d) = no_end (whole e) l ts x m d
 no_end _ _ _ _ _ (Derives.type_actual l m ts a t is d) = no_end type_ l (t ∷ ts) a m d
 no_end _ _ _ _ _ (Derives.name_type l m ts x d) = no_end name l ts x m d
-no_end _ _ _ _ _ (Derives.pred_type l k ts x t u is lt d close) = (ap is_end is, joined ts (u ∷ []) (no_end (item Item.Expression) (inside l) ts x k d) (ap is_end close, tt))
+no_end _ _ _ _ _ (Derives.pred_type l k ts x t u is lt d close) = (ap is_end is, joined ts (u ∷ []) (no_end (item Item.Expression) (in_frame l) ts x k d) (ap is_end close, tt))
 no_end _ _ _ _ _ (Derives.sub_type l k m ts us a x t u v w y is lt id colon d bar e close) =
-    (ap is_end is, (id_is_no_end u id, (ap is_end colon, joined ts (w ∷ (us ++ y ∷ [])) (no_end type_ (inside l) ts a k d) (ap is_end bar, joined us (y ∷ []) (no_end (item Item.Expression) k us x m e) (ap is_end close, tt)))))
-no_end _ _ _ _ _ (Derives.tuple_type l k ts b c bs t u is lt d close) = (ap is_end is, joined ts (u ∷ []) (no_end (list Item.Component) (inside l) ts (b ∷ c ∷ bs) k d) (ap is_end close, tt))
+    (ap is_end is, (id_is_no_end u id, (ap is_end colon, joined ts (w ∷ (us ++ y ∷ [])) (no_end type_ (in_frame l) ts a k d) (ap is_end bar, joined us (y ∷ []) (no_end (item Item.Expression) k us x m e) (ap is_end close, tt)))))
+no_end _ _ _ _ _ (Derives.tuple_type l k ts b c bs t u is lt d close) = (ap is_end is, joined ts (u ∷ []) (no_end (list Item.Component) (in_frame l) ts (b ∷ c ∷ bs) k d) (ap is_end close, tt))
 no_end _ _ _ _ _ (Derives.fun_type l k m ts us bs a t u v is lt d arrow e close) =
-    (ap is_end is, joined ts (u ∷ (us ++ v ∷ [])) (no_end (list Item.Component) (inside l) ts bs k d) (ap is_end arrow, joined us (v ∷ []) (no_end type_ k us a m e) (ap is_end close, tt)))
+    (ap is_end is, joined ts (u ∷ (us ++ v ∷ [])) (no_end (list Item.Component) (in_frame l) ts bs k d) (ap is_end arrow, joined us (v ∷ []) (no_end type_ k us a m e) (ap is_end close, tt)))
 no_end _ _ _ _ _ (Derives.named_component l m ts a t u is colon d) = (id_is_no_end t is, (ap is_end colon, no_end type_ l ts a m d))
 no_end _ _ _ _ _ (Derives.component l m ts a t d) = no_end type_ l (t ∷ ts) a m d
 no_end _ _ _ _ _ (Derives.untyped_variable l t is) = (id_is_no_end t is, tt)
@@ -134,7 +134,7 @@ type_word_no_end _ _ (DerivesTypeWord.nonempty_type t is) = (ap is_end is, tt)
 
 formal_no_end : {limit : Limit} (ts : Tokens) (fs : List Formal) → DerivesFormal limit ts fs → NoEnd ts
 formal_no_end _ _ (DerivesFormal.types ts us ws nonempty t d colon e) = joined ts (t ∷ us) (ids_no_end ts ws d) (ap is_end colon, type_word_no_end us nonempty e)
-formal_no_end _ _ (DerivesFormal.constants ts us ws a m t d colon e) = joined ts (t ∷ us) (ids_no_end ts ws d) (ap is_end colon, no_end type_ (inside outermost) us a m e)
+formal_no_end _ _ (DerivesFormal.constants ts us ws a m t d colon e) = joined ts (t ∷ us) (ids_no_end ts ws d) (ap is_end colon, no_end type_ (in_frame outermost) us a m e)
 
 formals_no_end : {limit : Limit} (n : ℕ) (ts : Tokens) (fs : List Formal) → DerivesFormals limit n ts fs → NoEnd ts
 formals_no_end _ _ _ (DerivesFormals.one ts fs d) = formal_no_end ts fs d
@@ -158,7 +158,7 @@ variables_no_end _ _ (DerivesVariables.variables ts us ws a m t u d colon var e)
 
 parameters_no_end : {limit : Limit} (ts : Tokens) (bs : List Binding) → DerivesParameters limit ts bs → NoEnd ts
 parameters_no_end _ _ DerivesParameters.none = tt
-parameters_no_end _ _ (DerivesParameters.parameters ts bs k t u is lt d close) = (ap is_end is, joined ts (u ∷ []) (no_end (list Item.Variable) (inside outermost) ts bs k d) (ap is_end close, tt))
+parameters_no_end _ _ (DerivesParameters.parameters ts bs k t u is lt d close) = (ap is_end is, joined ts (u ∷ []) (no_end (list Item.Variable) (in_frame outermost) ts bs k d) (ap is_end close, tt))
 
 body_no_end : {limit : Limit} (ts : Tokens) (x : Option Expr) → DerivesBody limit ts x → NoEnd ts
 body_no_end _ _ DerivesBody.none = tt

@@ -12,9 +12,9 @@ use Rattle.pvs_syntax.specs.declared.expression.InstExpr.{InstExpr}
 use Rattle.pvs_syntax.specs.declared.unit.Formal.{Formal}
 use Rattle.pvs_parser.specs.Terminals.{Is, IsId, is_id}
 use Rattle.pvs_parser.specs.Language as l
-use Rattle.pvs_parser.specs.Language.{Limit, Tokens, IsBelow, HasRoom, Derives, Form, Item, type_, outermost, inside, cleared, instance}
+use Rattle.pvs_parser.specs.Language.{Limit, Tokens, IsBelow, HasRoom, Derives, Form, Item, type_, outermost, in_frame, without_marks, instance}
 use Rattle.pvs_parser.specs.Units.{DerivesIds, DerivesTypeWord, DerivesFormal, DerivesFormals, DerivesFormalPart, DerivesInstances, DerivesImporting}
-use Rattle.pvs_parser.specs.Descent.{stop, too_many, crowded, list_from, entries}
+use Rattle.pvs_parser.specs.Descent.{stop, too_many, end_of_list, list_from, entries}
 use Rattle.pvs_parser.specs.UnitDescent.{expr, type, name, ids, formal_of, formal_after, formal, formals_from, formals, formal_part, inst, instances_from, importing}
 use Rattle.pvs_parser.proofs.Gets.{both}
 use Rattle.pvs_parser.proofs.DescentSteps.{Comes, after_yields, AtMost, entries_at_most, Splits, glue, put, alone, nothing}
@@ -110,7 +110,7 @@ module _ {Entry One : Limit → Tokens → Type 0} {L : Limit → ℕ → Tokens
   ))
   crowded_one ts vs rest us t s c d lt false is = stopped (comma_halts ts vs rest (t ∷ us) s c d lt reason.Unexpected tt)
 
-  crowded_stops : {B : Type 0} (ts vs rest us : Tokens) → Splits ts vs rest → Comes kind.Comma rest us → Entry limit vs → IsBelow limit k → Stops {A = B} (crowded is_id us) (Halts limit (λ w p. L w k p) ts)
+  crowded_stops : {B : Type 0} (ts vs rest us : Tokens) → Splits ts vs rest → Comes kind.Comma rest us → Entry limit vs → IsBelow limit k → Stops {A = B} (end_of_list is_id us) (Halts limit (λ w p. L w k p) ts)
   crowded_stops ts vs rest [] s c d lt = stopped (comma_halts ts vs rest [] s c d lt reason.Unexpected tt)
   crowded_stops ts vs rest (t ∷ us) s c d lt = crowded_one ts vs rest us t s c d lt (is_id t.kind) refl
 
@@ -178,7 +178,7 @@ ids_from_stops limit zero k most found l ts =
 ids_from_stops limit (suc n) k most found l ts =
     bind (name_sound l ts) (into (name_stops limit l ts) first (λ w wide p g. one_id w k p (wide.below k (at_most_below limit (suc n) k most)) g)) (λ p f. cases
     (λ us e. let c = (after_yields kind.Comma p.2).holds us e in
-    into (ids_from_stops limit n (suc k) (at_most_next limit n k most) (found ++ p.0 ∷ []) (cleared p.1) us) (behind f.1 (behind c.1 first))
+    into (ids_from_stops limit n (suc k) (at_most_next limit n k most) (found ++ p.0 ∷ []) (without_marks p.1) us) (behind f.1 (behind c.1 first))
     (λ w wide q g. more_ids w k (f.0 ∷ []) q c.0 (f.0, refl, f.2) c.2 g))
     (λ e. goes))
 
@@ -216,12 +216,12 @@ formal_names g = started _ (extend (tok kind.Colon ∷ tok kind.Type ∷ []) g.s
 formal_colon : {w : Limit} {ns : Tokens} {ws : List Word} (u : Terminal) → DerivesIds w ns ws → Is kind.Colon u → FormalBegun w (ns ++ u ∷ [])
 formal_colon {ns = ns} {ws = ws} u d colon = started _ (glue both (alone refl)) (DerivesFormal.types ns (tok kind.Type ∷ []) ws false u d colon (DerivesTypeWord.type (tok kind.Type) refl))
 
-formal_type : {w : Limit} {ns p : Tokens} {ws : List Word} (u : Terminal) → DerivesIds w ns ws → Is kind.Colon u → Completes w type_ (inside outermost) p → FormalBegun w (ns ++ u ∷ p)
+formal_type : {w : Limit} {ns p : Tokens} {ws : List Word} (u : Terminal) → DerivesIds w ns ws → Is kind.Colon u → Completes w type_ (in_frame outermost) p → FormalBegun w (ns ++ u ∷ p)
 formal_type {ns = ns} {ws = ws} u d colon c = started _ (glue both (put refl c.split)) (DerivesFormal.constants ns c.all ws c.tree c.behind u d colon c.derives)
 
 module _ (limit : Limit) (ns : Tokens) (ws : List Word) (u : Terminal) (d : DerivesIds limit ns ws) (colon : Is kind.Colon u) {all : Tokens} where
-  formal_type_stops : {ts : Tokens} → Place all (λ p. ns ++ u ∷ p) ts → Stops (type limit (inside outermost) ts) (Halts limit FormalBegun all)
-  formal_type_stops {ts = ts} place = into (type_stops limit (inside outermost) ts) place (λ w wide p g. formal_type u (widen_ids wide ns ws d) colon g)
+  formal_type_stops : {ts : Tokens} → Place all (λ p. ns ++ u ∷ p) ts → Stops (type limit (in_frame outermost) ts) (Halts limit FormalBegun all)
+  formal_type_stops {ts = ts} place = into (type_stops limit (in_frame outermost) ts) place (λ w wide p g. formal_type u (widen_ids wide ns ws d) colon g)
 
   formal_of_stops : (t : Terminal) (ts : Tokens) (k : TerminalKind) → Place all (λ p. ns ++ u ∷ p) (t ∷ ts) → Stops (formal_of limit ws t ts k) (Halts limit FormalBegun all)
   formal_of_stops t ts kind.Type place = goes
@@ -326,7 +326,7 @@ no_part = whole_of _ DerivesFormalPart.none
 
 formals_stops : (limit : Limit) (t : Terminal) (ts us : Tokens) → ts ≡ t ∷ us → Is kind.OpenBracket t → Stops (formals limit us) (Halts limit PartBegun ts)
 formals_stops limit t ts us e is =
-    room_then limit outermost (inside outermost) us _ (nested (moved nothing e) (no_comma t refl is) (λ w wide. no_part) (part_begun t is (any 0) (one_formal None 0 [] (any 0) (some_formal None)))) (λ lt.
+    room_then limit outermost (in_frame outermost) us _ (nested (moved nothing e) (no_comma t refl is) (λ w wide. no_part) (part_begun t is (any 0) (one_formal None 0 [] (any 0) (some_formal None)))) (λ lt.
     bind (from_sound limit (entries limit us) (entries_at_most limit us) [] us) (into (formals_entries limit lt us) (behind e first) (λ w wide p g. part_begun t is (wide.below 0 lt) g)) (λ p f.
     expect_then kind.CloseBracket p.1 _ (unexpected (put e f.3) (λ w wide. part_inside t is (wide.below 0 lt) (widen_formals wide f.0 f.2 f.1 f.6))) (λ vs c. goes)))
 
@@ -346,7 +346,7 @@ some_inst = made nothing (Derives.plain_inst outermost (tok kind.Id) refl)
 plain_inst : {w : Limit} {t : Terminal} → IsId t → InstBegun w (t ∷ [])
 plain_inst {t = t} is = made (alone refl) (Derives.plain_inst outermost t is)
 
-actuals_inst : {w : Limit} {p : Tokens} {t u : Terminal} → IsId t → Is kind.OpenBracket u → HasRoom w outermost → Completes w (l.list Item.Parameter) (inside outermost) p → InstBegun w (t ∷ u ∷ p)
+actuals_inst : {w : Limit} {p : Tokens} {t u : Terminal} → IsId t → Is kind.OpenBracket u → HasRoom w outermost → Completes w (l.list Item.Parameter) (in_frame outermost) p → InstBegun w (t ∷ u ∷ p)
 actuals_inst {t = t} {u = u} is opened lt c =
     made (put refl (put refl (extend (tok kind.CloseBracket ∷ []) c.split))) (Derives.inst_with outermost c.behind c.all c.tree t u (tok kind.CloseBracket) is opened lt c.derives refl)
 

@@ -10,7 +10,7 @@ use Rattle.pvs_parser.specs.Language.{Limit, Tokens, IsBelow}
 use Rattle.pvs_parser.specs.Units.{Balanced, DerivesProof, is_plain}
 use Rattle.pvs_parser.specs.Descent.{Answer, too_deep, is_below}
 use Rattle.pvs_base.specs.Answers.{◌>>=◌}
-use Rattle.pvs_parser.specs.UnitDescent.{balanced_of, balanced, script, target, proof}
+use Rattle.pvs_parser.specs.UnitDescent.{closing_parenthesis_of, closing_parenthesis, script, target, proof}
 use Rattle.pvs_parser.proofs.Gets.{both}
 use Rattle.pvs_parser.proofs.DescentSteps.{below_is, is_below_is, Splits, glue, put, alone, nothing}
 use Rattle.pvs_parser.proofs.Scripts.{Closes, token_front, group_front, script_sound, target_sound}
@@ -83,7 +83,7 @@ open_stops limit n t ts go h opened true is = text_into h (behind refl first) (�
 open_stops limit n t ts go h opened false is = stopped (text_nested nothing (no_comma t refl opened) (λ w wide. nothing_begun n) (open_begun n t opened (any 0) (nothing_begun (suc n))))
 
 balanced_of_stops : (limit : Limit) (n : ℕ) (t : Terminal) (ts : Tokens) (go : ℕ → Answer (Word × Tokens)) → ((m : ℕ) → Stops (go m) (TextHalts limit (λ w p. ClosesBegun w m p) ts)) → (k : TerminalKind) → t.kind ≡ k
-    → Stops (balanced_of limit n t ts go k) (TextHalts limit (λ w p. ClosesBegun w n p) (t ∷ ts))
+    → Stops (closing_parenthesis_of limit n t ts go k) (TextHalts limit (λ w p. ClosesBegun w n p) (t ∷ ts))
 balanced_of_stops limit n t ts go h kind.Open is = open_stops limit n t ts go (h (suc n)) is (is_below limit (suc n)) refl
 balanced_of_stops limit zero t ts go h kind.Close is = goes
 balanced_of_stops limit (suc n) t ts go h kind.Close is = text_into (h n) (behind refl first) (λ w wide p g. close_begun n t is g)
@@ -92,10 +92,10 @@ balanced_of_stops limit n t ts go h _ is = text_into (h n) (behind refl first) (
 no_tokens : (t : Terminal) (more : Tokens) → [] ≡ t ∷ more → ⊥
 no_tokens t more e = cc
 
-balanced_stops : (limit : Limit) (n : ℕ) (ts : Tokens) → Stops (balanced limit n ts) (TextHalts limit (λ w p. ClosesBegun w n p) ts)
-unfolding balanced
+balanced_stops : (limit : Limit) (n : ℕ) (ts : Tokens) → Stops (closing_parenthesis limit n ts) (TextHalts limit (λ w p. ClosesBegun w n p) ts)
+unfolding closing_parenthesis
 balanced_stops limit n [] = stopped (text_unexpected nothing (λ w wide. nothing_begun n) (λ t more e is. absurd (no_tokens t more e)))
-balanced_stops limit n (t ∷ ts) = balanced_of_stops limit n t ts (λ m. balanced limit m ts) (λ m. balanced_stops limit m ts) t.kind refl
+balanced_stops limit n (t ∷ ts) = balanced_of_stops limit n t ts (λ m. closing_parenthesis limit m ts) (λ m. balanced_stops limit m ts) t.kind refl
 
 -- ---- proofs
 
@@ -146,8 +146,8 @@ target_stops limit some t ts us e opened =
     expect_then kind.Dot ys _ (text_unexpected (put e (put a.1 (alone g))) (λ w wide. proof_theory t a.0 v (wide.below 0 some) opened a.2 is) (λ z more same id. id_is_no_end v is)) (λ zs b.
     id_then zs _ (text_unexpected (put e (put a.1 (put g (alone b.1)))) (λ w wide. proof_dot t a.0 v b.0 (wide.below 0 some) opened a.2 is b.2) (λ z more same id. ap is_end b.2)) (λ x rest h is2. goes))))
 
-inner_stops : {limit : Limit} {K : Limit → Tokens → Type 0} {all : Tokens} (t : Word) (us : Tokens) → Stops (balanced limit 0 us) (TextHalts limit K all) → IsBelow limit 0 → (b : Bool) → is_below limit 0 ≡ b
-    → Stops {A = Word × Word × Tokens} (if b then (balanced limit 0 us >>= λ p. Ok (t, p.0, p.1)) else too_deep us) (TextHalts limit K all)
+inner_stops : {limit : Limit} {K : Limit → Tokens → Type 0} {all : Tokens} (t : Word) (us : Tokens) → Stops (closing_parenthesis limit 0 us) (TextHalts limit K all) → IsBelow limit 0 → (b : Bool) → is_below limit 0 ≡ b
+    → Stops {A = Word × Word × Tokens} (if b then (closing_parenthesis limit 0 us >>= λ p. Ok (t, p.0, p.1)) else too_deep us) (TextHalts limit K all)
 inner_stops t us g some true is = then_ g (λ p. goes)
 inner_stops {limit = limit} t us g some false is = let other : is_below limit 0 ≡ true = is_below_is limit 0 some in absurd cc
 

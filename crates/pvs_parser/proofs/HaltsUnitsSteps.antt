@@ -9,7 +9,7 @@ use Rattle.pvs_parser.specs.Terminals.{IsId, is_id}
 use Rattle.pvs_parser.specs.Language.{Limit, Tokens}
 use Rattle.pvs_parser.specs.Descent.{Answer, stop, id}
 use Rattle.pvs_base.specs.Answers.{◌>>=◌}
-use Rattle.pvs_parser.specs.Faults.{BehindEnd}
+use Rattle.pvs_parser.specs.Faults.{AwaitsName}
 use Rattle.pvs_parser.proofs.DescentSteps.{Splits}
 use Rattle.pvs_parser.proofs.Halts.{Stops, stopped, weaken, at, deep, Wider, no_limit, same_limit, Full, NoComma, Why, Halts, Place, upto, within_inner}
 use Rattle.pvs_parser.proofs.HaltsUnitsEnds.{NoEnd, last_is_end, last_of, last_plain, last_any}
@@ -18,7 +18,7 @@ use Rattle.pvs_parser.proofs.HaltsUnitsEnds.{NoEnd, last_is_end, last_of, last_p
 abbrev pub TextWhy : (Limit → Tokens → Type 0) → Tokens → Tokens → Reason → Type 0
 TextWhy K before rest reason.Unexpected = (t : Terminal) (more : Tokens) → rest ≡ t ∷ more → IsId t → last_is_end true before ≡ false
 TextWhy K before rest reason.TooNested = Why K before rest reason.TooNested
-TextWhy K before rest reason.WrongEnd = (t : Terminal) × (more : Tokens) × (rest ≡ t ∷ more) × IsId t × BehindEnd before
+TextWhy K before rest reason.WrongEnd = (t : Terminal) × (more : Tokens) × (rest ≡ t ∷ more) × IsId t × AwaitsName before
 
 -- K w p: the tokens p can be completed within the limit w. Where reading stopped, those before the stop can be.
 pub record TextHalts (limit : Limit) (K : Limit → Tokens → Type 0) (ts : Tokens) (e : Stop) : Type 0 where
@@ -55,7 +55,7 @@ text_nested {limit = limit} {before = before} {us = us} {t = t} s other k h = re
 }
 
 -- at another name than that of the theory
-pub text_wrong : {limit : Limit} {K : Limit → Tokens → Type 0} {ts before us : Tokens} {t : Terminal} → Splits ts before (t ∷ us) → IsId t → BehindEnd before → ((w : Limit) → Wider limit w → K w before)
+pub text_wrong : {limit : Limit} {K : Limit → Tokens → Type 0} {ts before us : Tokens} {t : Terminal} → Splits ts before (t ∷ us) → IsId t → AwaitsName before → ((w : Limit) → Wider limit w → K w before)
     → TextHalts limit K ts (record { left = length us + 1; reason = reason.WrongEnd })
 text_wrong {limit = limit} {before = before} {us = us} {t = t} s is end k = record {
   before = before;

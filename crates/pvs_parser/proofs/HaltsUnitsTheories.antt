@@ -11,7 +11,7 @@ use Rattle.pvs_parser.specs.Language.{Limit, Tokens, IsBelow}
 use Rattle.pvs_parser.specs.Units.{DerivesFormalPart, DerivesDecl, DerivesAssumed, DerivesSemicolon, DerivesMany, DerivesAssuming, DerivesTheory}
 use Rattle.pvs_syntax.specs.Words.{spelling}
 use Rattle.pvs_base.specs.Answers.{◌>>=◌}
-use Rattle.pvs_parser.specs.UnitDescent.{declaration, assumed, comes_decl, past_semicolon, many_from, declarations, assumptions, assuming_part, heading, ending, theory}
+use Rattle.pvs_parser.specs.UnitDescent.{declaration, assuming_decl, comes_decl, past_semicolon, many_from, declarations, assumptions, assuming_part, heading, ending, theory}
 use Rattle.pvs_parser.proofs.Yields.{Yields}
 use Rattle.pvs_parser.proofs.Gets.{both}
 use Rattle.pvs_parser.proofs.DescentSteps.{after_yields, glue, put, alone, nothing}
@@ -65,8 +65,8 @@ assuming_begun t is g = started _ (put refl (extend (tok kind.EndAssuming ∷ []
 
 assumptions_stops : (limit : Limit) → IsBelow limit 0 → (t : Terminal) (ts us : Tokens) → ts ≡ t ∷ us → Is kind.Assuming t → Stops (assumptions limit us) (Halts limit AssumingBegun ts)
 assumptions_stops limit some t ts us e is =
-    bind (many_sound (assumed limit) (DerivesAssumed limit) (assumed_sound limit) us)
-    (into (many_stops limit DerivesAssumed (assumed limit) (assumed_sound limit) (λ w wide ts ds d. widen_assumed wide ts ds d) (assumed_stops limit some) (length us) [] us) (behind e first) (λ w wide p g. assuming_begun t is g)) (λ p f.
+    bind (many_sound (assuming_decl limit) (DerivesAssumed limit) (assumed_sound limit) us)
+    (into (many_stops limit DerivesAssumed (assuming_decl limit) (assumed_sound limit) (λ w wide ts ds d. widen_assumed wide ts ds d) (assumed_stops limit some) (length us) [] us) (behind e first) (λ w wide p g. assuming_begun t is g)) (λ p f.
     expect_then kind.EndAssuming p.1 _ (unexpected (put e f.1) (λ w wide. assuming_begun t is (whole_of _ (widen_many (λ ts ds d. widen_assumed wide ts ds d) f.0 p.0 f.2)))) (λ vs c. goes))
 
 assuming_part_stops : (limit : Limit) → IsBelow limit 0 → (ts : Tokens) → Stops (assuming_part limit ts) (Halts limit AssumingBegun ts)

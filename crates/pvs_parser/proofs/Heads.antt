@@ -6,7 +6,7 @@ use Rattle.pvs_parser.specs.declared.terminal.TerminalKind.{TerminalKind}
 use Rattle.pvs_parser.specs.declared.terminal.TerminalKind.TheVariants as kind
 use Rattle.pvs_syntax.specs.declared.expression.BinderWord.{BinderWord}
 use Rattle.pvs_parser.specs.Terminals.{IsId, is_id}
-use Rattle.pvs_parser.specs.Language.{Limit, Tokens, Derives, Plain, Form, Item, Nonterminal, form, item, list, name, inst, type_, Tree, tighter, begins_type, binder_word}
+use Rattle.pvs_parser.specs.Language.{Limit, Tokens, Derives, Plain, Form, Item, Nonterminal, form, item, list, name, inst, type_, TreeOf, operand_form, begins_type, binder_word}
 use Rattle.pvs_parser.specs.Descent.{starts_type}
 
 -- an identifier stands first
@@ -67,11 +67,11 @@ alone_heads Item.Variable ts f = tt
 alone_heads Item.BareVariable ts f = f
 alone_heads Item.Definition ts f = tt
 
-pub heads : {limit : Limit} (s : Nonterminal) (l : Nesting) (ts : Tokens) (x : Tree s) (m : Nesting) → Derives limit s l ts x m → Heads s ts
+pub heads : {limit : Limit} (s : Nonterminal) (l : Nesting) (ts : Tokens) (x : TreeOf s) (m : Nesting) → Derives limit s l ts x m → Heads s ts
 heads _ _ _ _ _ (Derives.one i l m ts x d) = alone_heads i ts (heads (item i) l ts x m d)
 heads _ _ _ _ _ (Derives.more i l k m ts us x xs t d is e lt) = one_heads i ts (t ∷ us) (heads (item i) l ts x k d)
-heads _ _ _ _ _ (Derives.alone c e l m ts x d) = heads (form (tighter c e)) l ts x m d
-heads _ _ _ _ _ (Derives.joined c e l k m ts us x y t d is lt f) = front ts (t ∷ us) (heads (form (tighter c Plain)) l ts x k d)
+heads _ _ _ _ _ (Derives.alone c e l m ts x d) = heads (form (operand_form c e)) l ts x m d
+heads _ _ _ _ _ (Derives.joined c e l k m ts us x y t d is lt f) = front ts (t ∷ us) (heads (form (operand_form c Plain)) l ts x k d)
 heads _ _ _ _ _ (Derives.compared l m ts x d) = heads (form Form.Comparisons) l ts x m d
 heads _ _ _ _ _ (Derives.prefixed e l m ts x d) = heads (form (Form.Prefixed e)) l ts x m d
 heads _ _ _ _ _ (Derives.compared_prefixed e l k m ts us x y w t d is lt f) = front ts (t ∷ us) (heads (form Form.Comparisons) l ts x k d)

@@ -5,7 +5,7 @@ use Rattle.pvs_parser.specs.declared.terminal.Terminal.{Terminal}
 use Rattle.pvs_parser.specs.declared.terminal.TerminalKind.TheVariants as kind
 use Rattle.pvs_syntax.specs.declared.word.Word.{Word}
 use Rattle.pvs_parser.specs.Terminals.{Is, IsId, is_id, same_kind}
-use Rattle.pvs_parser.specs.Language.{Limit, IsBelow, Tokens, outermost, cleared}
+use Rattle.pvs_parser.specs.Language.{Limit, IsBelow, Tokens, outermost, without_marks}
 use Rattle.pvs_parser.specs.Units.{DerivesIds}
 use Rattle.pvs_parser.specs.Descent.{after, entries, list_from}
 use Rattle.pvs_parser.specs.UnitDescent.{name, ids}
@@ -46,7 +46,7 @@ unfolding list_from
 from_sound limit zero most before l ts = crowded_yields is_id ts
 from_sound limit (suc n) most before l ts =
     bind (name_sound l ts) (λ p f. cases
-    (λ us a. weaken (λ q g. more_names limit n most before ts p f us ((after_yields kind.Comma p.2).holds us a) q g) (from_sound limit n (fewer limit n most) (before ++ p.0 ∷ []) (cleared p.1) us))
+    (λ us a. weaken (λ q g. more_names limit n most before ts p f us ((after_yields kind.Comma p.2).holds us a) q g) (from_sound limit n (fewer limit n most) (before ++ p.0 ∷ []) (without_marks p.1) us))
     (λ a. here (one_name limit n before ts p f)))
 
 pub ids_sound : (limit : Limit) (ts : Tokens) → Yields (ids limit ts) (Fore (DerivesIds limit) ts)

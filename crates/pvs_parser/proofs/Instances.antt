@@ -24,7 +24,7 @@ abbrev pub IsInst : Limit → Tokens → InstExpr → Type 0
 IsInst limit ts i = (m : Nesting) × Derives limit l.inst outermost ts i m
 
 inst_with : (limit : Limit) (ts us vs : Tokens) (xs : List Actual) (k : Nesting) (t u v : Terminal) → IsId t → Is kind.OpenBracket u → vs ≡ us ++ v ∷ [] → l.HasRoom limit outermost
-    → Derives limit (l.list Item.Parameter) (l.inside outermost) us xs k → Is kind.CloseBracket v → IsInst limit (t ∷ u ∷ vs) (instance t.word xs)
+    → Derives limit (l.list Item.Parameter) (l.in_frame outermost) us xs k → Is kind.CloseBracket v → IsInst limit (t ∷ u ∷ vs) (instance t.word xs)
 inst_with limit ts us vs xs k t u v is opened e lt d close =
     (outermost, subst (λ z. Derives limit l.inst outermost (t ∷ u ∷ z) (instance t.word xs) outermost) (sym e) (Derives.inst_with outermost k us xs t u v is opened lt d close))
 
@@ -64,7 +64,7 @@ plain_goes : (limit : Limit) (ts : Tokens) (i : InstExpr) (t : Terminal) → IsI
 plain_goes limit ts i t is e f all us s shut =
     subst (λ z. Gets (inst limit all) (z, us)) (sym f) (from (λ z. inst limit z) s (subst (λ z. Gets (inst limit (z ++ us)) (instance t.word [], us)) (sym e) (names t us _ is (absent _ shut found))))
 
-with_goes : (limit : Limit) (ts : Tokens) (i : InstExpr) (t u v : Terminal) (vs : Tokens) (xs : List Actual) (k : Nesting) → IsId t → Is kind.OpenBracket u → l.HasRoom limit outermost → Derives limit (l.list Item.Parameter) (l.inside outermost) vs xs k
+with_goes : (limit : Limit) (ts : Tokens) (i : InstExpr) (t u v : Terminal) (vs : Tokens) (xs : List Actual) (k : Nesting) → IsId t → Is kind.OpenBracket u → l.HasRoom limit outermost → Derives limit (l.list Item.Parameter) (l.in_frame outermost) vs xs k
     → Is kind.CloseBracket v → ts ≡ t ∷ u ∷ (vs ++ v ∷ []) → i ≡ instance t.word xs → (all us : Tokens) → Splits all ts us → Gets (inst limit all) (i, us)
 with_goes limit ts i t u v vs xs k is opened lt d close e f all us s =
     subst (λ z. Gets (inst limit all) (z, us)) (sym f) (from (λ z. inst limit z) s (subst (λ z. Gets (inst limit (z ++ us)) (instance t.word xs, us)) (sym e)

@@ -39,6 +39,11 @@ pub mod HaltsWiden
 pub mod HaltsBegins
 pub mod HaltsDescent
 pub mod HaltsWholes
+pub mod FirstTokens
+pub mod TreeTokens
+pub mod ExprTrees
+pub mod TextTokens
+pub mod UnitTrees
 pub mod Answers
 pub mod HaltsUnitsWiden
 pub mod HaltsUnitsEnds

@@ -3,7 +3,7 @@ use Rattle.std.proofs.Common.{◌≡◌, [], ◌∷◌, ◌++◌, refl, ap}
 use Rattle.pvs_parser.specs.declared.nesting.Nesting.{Nesting}
 use Rattle.pvs_parser.specs.declared.terminal.Connective.TheVariants as connective
 use Rattle.pvs_parser.specs.declared.terminal.Terminal.{Terminal}
-use Rattle.pvs_parser.specs.Language.{Limit, Tokens, Derives, Plain, Form, Nonterminal, form, item, name, inst, Tree, tighter}
+use Rattle.pvs_parser.specs.Language.{Limit, Tokens, Derives, Plain, Form, Nonterminal, form, item, name, inst, TreeOf, operand_form}
 
 abbrev pub Nonempty : Tokens → Type 0
 Nonempty ts = (t : Terminal) × (us : Tokens) × (ts ≡ t ∷ us)
@@ -11,12 +11,12 @@ Nonempty ts = (t : Terminal) × (us : Tokens) × (ts ≡ t ∷ us)
 front : (ts us : Tokens) → Nonempty ts → Nonempty (ts ++ us)
 front ts us f = (f.0, f.1 ++ us, ap (λ z. z ++ us) f.2)
 
-pub nonempty : {limit : Limit} (s : Nonterminal) (l : Nesting) (ts : Tokens) (x : Tree s) (m : Nesting) → Derives limit s l ts x m → Nonempty ts
+pub nonempty : {limit : Limit} (s : Nonterminal) (l : Nesting) (ts : Tokens) (x : TreeOf s) (m : Nesting) → Derives limit s l ts x m → Nonempty ts
 nonempty _ _ _ _ _ (Derives.one i l m ts x d) = nonempty (item i) l ts x m d
 nonempty _ _ _ _ _ (Derives.more i l k m ts us x xs t d is e lt) = front ts (t ∷ us) (nonempty (item i) l ts x k d)
 nonempty _ _ _ _ _ (Derives.expression e l m ts x d) = nonempty (form (Form.Chain connective.Iff e)) l ts x m d
-nonempty _ _ _ _ _ (Derives.alone c e l m ts x d) = nonempty (form (tighter c e)) l ts x m d
-nonempty _ _ _ _ _ (Derives.joined c e l k m ts us x y t d is lt f) = front ts (t ∷ us) (nonempty (form (tighter c Plain)) l ts x k d)
+nonempty _ _ _ _ _ (Derives.alone c e l m ts x d) = nonempty (form (operand_form c e)) l ts x m d
+nonempty _ _ _ _ _ (Derives.joined c e l k m ts us x y t d is lt f) = front ts (t ∷ us) (nonempty (form (operand_form c Plain)) l ts x k d)
 nonempty _ _ _ _ _ (Derives.compared l m ts x d) = nonempty (form Form.Comparisons) l ts x m d
 nonempty _ _ _ _ _ (Derives.prefixed e l m ts x d) = nonempty (form (Form.Prefixed e)) l ts x m d
 nonempty _ _ _ _ _ (Derives.compared_prefixed e l k m ts us x y w t d is lt f) = front ts (t ∷ us) (nonempty (form Form.Comparisons) l ts x k d)

@@ -2,13 +2,13 @@
 use Rattle.std.proofs.Common.{◌≡◌, ◌∙◌, ◌+◌, [], ◌∷◌, ◌++◌, length, Ok, refl, sym, ap, subst, append-nil, arith}
 use Rattle.pvs_parser.specs.declared.nesting.Nesting.{Nesting}
 use Rattle.pvs_syntax.specs.declared.expression.Expr.{Expr}
-use Rattle.pvs_parser.specs.Language.{Limit, Tokens, Derives, Ending, bounded, outermost, whole, ReadsExpr}
-use Rattle.pvs_parser.specs.Descent.{Answer, ended, expression}
+use Rattle.pvs_parser.specs.Language.{Limit, Tokens, Derives, Ending, language_limit, outermost, whole, ReadsExpr}
+use Rattle.pvs_parser.specs.Descent.{Answer, at_end, expression}
 use Rattle.pvs_parser.proofs.Yields.{Yields, here, none, bind, weaken}
 use Rattle.pvs_parser.proofs.Gets.{then_, found}
 use Rattle.pvs_parser.proofs.Wholes.{read_expr_sound, read_expr_complete, nothing_follows}
 
-ended_yields : (x : Expr) (us : Tokens) → Yields (ended x us) (λ y. (us ≡ []) × (x ≡ y))
+ended_yields : (x : Expr) (us : Tokens) → Yields (at_end x us) (λ y. (us ≡ []) × (x ≡ y))
 ended_yields x [] = here (refl, refl)
 ended_yields x (t ∷ us) = none
 
@@ -29,7 +29,7 @@ expression_sound limit ts x e = (sound limit ts).holds x e
 
 pub expression_complete : (limit : Limit) (ts : Tokens) (x : Expr) → Whole limit ts x → expression limit ts ≡ Ok x
 expression_complete limit ts x r =
-    (then_ (λ p. ended p.0 p.2) (read_expr_complete limit (length ts + 1) r.0 outermost ts x r.1 r.2 (omega arith) ts [] (record { same = sym (append-nil ts) }) nothing_follows.0 nothing_follows.1) found).is
+    (then_ (λ p. at_end p.0 p.2) (read_expr_complete limit (length ts + 1) r.0 outermost ts x r.1 r.2 (omega arith) ts [] (record { same = sym (append-nil ts) }) nothing_follows.0 nothing_follows.1) found).is
 
 abbrev answer : {A : Type 0} → Answer A → Answer A
 answer o = o
@@ -38,4 +38,4 @@ ok_same : (x y : Expr) → answer (Ok x) ≡ Ok y → x ≡ y
 ok_same x y e = cc
 
 pub one_expr : (ts : Tokens) (x y : Expr) → ReadsExpr ts x → ReadsExpr ts y → x ≡ y
-one_expr ts x y r s = ok_same x y (sym (expression_complete bounded ts x r) ∙ expression_complete bounded ts y s)
+one_expr ts x y r s = ok_same x y (sym (expression_complete language_limit ts x r) ∙ expression_complete language_limit ts y s)

@@ -10,7 +10,7 @@ use Rattle.pvs_parser.specs.Language.{Limit, IsBelow, Tokens}
 use Rattle.pvs_parser.specs.Units.{Balanced, DerivesProof, is_plain}
 use Rattle.pvs_parser.specs.Descent.{Answer, too_deep, is_below}
 use Rattle.pvs_base.specs.Answers.{◌>>=◌}
-use Rattle.pvs_parser.specs.UnitDescent.{balanced_of, balanced, script, target, proof}
+use Rattle.pvs_parser.specs.UnitDescent.{closing_parenthesis_of, closing_parenthesis, script, target, proof}
 use Rattle.pvs_parser.proofs.Yields.{Yields, here, none, bind, weaken}
 use Rattle.pvs_parser.proofs.Gets.{Gets, found, then_, takes, names}
 use Rattle.pvs_parser.proofs.DescentSteps.{expect_yields, id_bind, below_is, is_below_is, Splits, glue, put, alone, nothing}
@@ -41,16 +41,16 @@ open_sound limit n t ts go sound opened true is = weaken (λ p c. group_front li
 open_sound limit n t ts go sound opened false is = none
 
 balanced_of_sound : (limit : Limit) (n : ℕ) (t : Terminal) (ts : Tokens) (go : ℕ → Answer (Word × Tokens)) → ((m : ℕ) → Yields (go m) (Closes limit m ts)) → (k : TerminalKind) → t.kind ≡ k
-    → Yields (balanced_of limit n t ts go k) (Closes limit n (t ∷ ts))
+    → Yields (closing_parenthesis_of limit n t ts go k) (Closes limit n (t ∷ ts))
 balanced_of_sound limit n t ts go sound kind.Open is = open_sound limit n t ts go (sound (suc n)) is (is_below limit (suc n)) refl
 balanced_of_sound limit zero t ts go sound kind.Close is = here ([], t, nothing, Balanced.nothing 1, is, refl)
 balanced_of_sound limit (suc n) t ts go sound kind.Close is = weaken (λ p c. ([], t, ts, nothing, Balanced.nothing (suc (suc n)), is, c)) (sound n)
 balanced_of_sound limit n t ts go sound _ is = weaken (λ p c. token_front limit n t ts p (ap is_plain is) c) (sound n)
 
-balanced_sound : (limit : Limit) (n : ℕ) (ts : Tokens) → Yields (balanced limit n ts) (Closes limit n ts)
-unfolding balanced
+balanced_sound : (limit : Limit) (n : ℕ) (ts : Tokens) → Yields (closing_parenthesis limit n ts) (Closes limit n ts)
+unfolding closing_parenthesis
 balanced_sound limit n [] = none
-balanced_sound limit n (t ∷ ts) = balanced_of_sound limit n t ts (λ m. balanced limit m ts) (λ m. balanced_sound limit m ts) t.kind refl
+balanced_sound limit n (t ∷ ts) = balanced_of_sound limit n t ts (λ m. closing_parenthesis limit m ts) (λ m. balanced_sound limit m ts) t.kind refl
 
 -- ---- proofs
 
@@ -69,7 +69,7 @@ pub record ScriptFront (limit : Limit) (ts : Tokens) (p : Word × Word × Tokens
   pub first_is : y.word ≡ p.0
   pub last_is : z.word ≡ p.1
 
-inner_sound : (limit : Limit) (t : Terminal) (us : Tokens) → Is kind.Open t → (b : Bool) → is_below limit 0 ≡ b → Yields (if b then (balanced limit 0 us >>= λ p. Ok (t.word, p.0, p.1)) else too_deep us) (ScriptFront limit (t ∷ us))
+inner_sound : (limit : Limit) (t : Terminal) (us : Tokens) → Is kind.Open t → (b : Bool) → is_below limit 0 ≡ b → Yields (if b then (closing_parenthesis limit 0 us >>= λ p. Ok (t.word, p.0, p.1)) else too_deep us) (ScriptFront limit (t ∷ us))
 inner_sound limit t us opened true is = bind (balanced_sound limit 0 us) (λ p c. here (record {
   y = t;
   z = c.1;
@@ -143,43 +143,43 @@ proof_sound limit t ts us e is = bind (target_sound us) (λ p f. bind (script_so
 
 -- ---- the other way round
 
-plain_goes : (limit : Limit) (n : ℕ) (t : Terminal) (ts : Tokens) (go : ℕ → Answer (Word × Tokens)) (k : TerminalKind) → is_plain k ≡ true → balanced_of limit n t ts go k ≡ go n
+plain_goes : (limit : Limit) (n : ℕ) (t : Terminal) (ts : Tokens) (go : ℕ → Answer (Word × Tokens)) (k : TerminalKind) → is_plain k ≡ true → closing_parenthesis_of limit n t ts go k ≡ go n
 plain_goes limit n t ts go kind.Open e = cc
 plain_goes limit n t ts go kind.Close e = cc
 plain_goes limit n t ts go _ e = refl
 
-open_goes : (limit : Limit) (n : ℕ) (t : Terminal) (ts : Tokens) (y : Word × Tokens) → Is kind.Open t → IsBelow limit (suc n) → Gets (balanced limit (suc n) ts) y → Gets (balanced limit n (t ∷ ts)) y
-unfolding balanced
+open_goes : (limit : Limit) (n : ℕ) (t : Terminal) (ts : Tokens) (y : Word × Tokens) → Is kind.Open t → IsBelow limit (suc n) → Gets (closing_parenthesis limit (suc n) ts) y → Gets (closing_parenthesis limit n (t ∷ ts)) y
+unfolding closing_parenthesis
 open_goes limit n t ts y is lt g = record {
-  is = ap (balanced_of limit n t ts (λ m. balanced limit m ts)) is ∙ ap (λ b. if b then balanced limit (suc n) ts else too_deep ts) (is_below_is limit (suc n) lt) ∙ g.is;
+  is = ap (closing_parenthesis_of limit n t ts (λ m. closing_parenthesis limit m ts)) is ∙ ap (λ b. if b then closing_parenthesis limit (suc n) ts else too_deep ts) (is_below_is limit (suc n) lt) ∙ g.is;
 }
 
-close_goes : (limit : Limit) (n : ℕ) (t : Terminal) (ts : Tokens) (y : Word × Tokens) → Is kind.Close t → Gets (balanced limit n ts) y → Gets (balanced limit (suc n) (t ∷ ts)) y
-unfolding balanced
-close_goes limit n t ts y is g = record { is = ap (balanced_of limit (suc n) t ts (λ m. balanced limit m ts)) is ∙ g.is }
+close_goes : (limit : Limit) (n : ℕ) (t : Terminal) (ts : Tokens) (y : Word × Tokens) → Is kind.Close t → Gets (closing_parenthesis limit n ts) y → Gets (closing_parenthesis limit (suc n) (t ∷ ts)) y
+unfolding closing_parenthesis
+close_goes limit n t ts y is g = record { is = ap (closing_parenthesis_of limit (suc n) t ts (λ m. closing_parenthesis limit m ts)) is ∙ g.is }
 
-last_goes : (limit : Limit) (t : Terminal) (ts : Tokens) → Is kind.Close t → Gets (balanced limit 0 (t ∷ ts)) (t.word, ts)
-unfolding balanced
-last_goes limit t ts is = record { is = ap (balanced_of limit 0 t ts (λ m. balanced limit m ts)) is }
+last_goes : (limit : Limit) (t : Terminal) (ts : Tokens) → Is kind.Close t → Gets (closing_parenthesis limit 0 (t ∷ ts)) (t.word, ts)
+unfolding closing_parenthesis
+last_goes limit t ts is = record { is = ap (closing_parenthesis_of limit 0 t ts (λ m. closing_parenthesis limit m ts)) is }
 
-token_goes : (limit : Limit) (n : ℕ) (t : Terminal) (ts : Tokens) (y : Word × Tokens) → is_plain t.kind ≡ true → Gets (balanced limit n ts) y → Gets (balanced limit n (t ∷ ts)) y
-unfolding balanced
-token_goes limit n t ts y plain g = record { is = plain_goes limit n t ts (λ m. balanced limit m ts) t.kind plain ∙ g.is }
+token_goes : (limit : Limit) (n : ℕ) (t : Terminal) (ts : Tokens) (y : Word × Tokens) → is_plain t.kind ≡ true → Gets (closing_parenthesis limit n ts) y → Gets (closing_parenthesis limit n (t ∷ ts)) y
+unfolding closing_parenthesis
+token_goes limit n t ts y plain g = record { is = plain_goes limit n t ts (λ m. closing_parenthesis limit m ts) t.kind plain ∙ g.is }
 
 -- what is read behind balanced tokens is read through them
-through : (limit : Limit) (k : ℕ) (vs : Tokens) → Balanced limit k vs → (n : ℕ) → k ≡ suc n → (rest : Tokens) (y : Word × Tokens) → Gets (balanced limit n rest) y → Gets (balanced limit n (vs ++ rest)) y
+through : (limit : Limit) (k : ℕ) (vs : Tokens) → Balanced limit k vs → (n : ℕ) → k ≡ suc n → (rest : Tokens) (y : Word × Tokens) → Gets (closing_parenthesis limit n rest) y → Gets (closing_parenthesis limit n (vs ++ rest)) y
 through limit _ _ (Balanced.nothing k) n e rest y g = g
 through limit _ _ (Balanced.token k ts t plain d) n e rest y g = token_goes limit n t (ts ++ rest) y plain (through limit k ts d n e rest y g)
 through limit _ _ (Balanced.group k ts us t u opened lt d close f) n e rest y g =
-    subst (λ z. Gets (balanced limit n (t ∷ z)) y) (sym (append_assoc ts (u ∷ us) rest))
+    subst (λ z. Gets (closing_parenthesis limit n (t ∷ z)) y) (sym (append_assoc ts (u ∷ us) rest))
     (open_goes limit n t (ts ++ u ∷ (us ++ rest)) y opened (subst (λ z. IsBelow limit z) e lt)
     (through limit (suc k) ts d (suc n) (ap suc e) (u ∷ (us ++ rest)) y (close_goes limit n u (us ++ rest) y close (through limit k us f n e rest y g))))
 
 script_goes : (limit : Limit) (y z : Terminal) (ts rest : Tokens) → Is kind.Open y → IsBelow limit 0 → Balanced limit 1 ts → Is kind.Close z → Gets (script limit (y ∷ (ts ++ z ∷ rest))) (y.word, z.word, rest)
 script_goes limit y z ts rest opened lt d close =
     let all : Tokens = ts ++ z ∷ rest in
-    let g : Gets (balanced limit 0 all >>= λ p. Ok (y.word, p.0, p.1)) (y.word, z.word, rest) = then_ _ (through limit 1 ts d 0 refl (z ∷ rest) (z.word, rest) (last_goes limit z rest close)) found in
-    takes kind.Open y all _ opened (record { is = ap (λ b. if b then (balanced limit 0 all >>= λ p. Ok (y.word, p.0, p.1)) else too_deep all) (is_below_is limit 0 lt) ∙ g.is })
+    let g : Gets (closing_parenthesis limit 0 all >>= λ p. Ok (y.word, p.0, p.1)) (y.word, z.word, rest) = then_ _ (through limit 1 ts d 0 refl (z ∷ rest) (z.word, rest) (last_goes limit z rest close)) found in
+    takes kind.Open y all _ opened (record { is = ap (λ b. if b then (closing_parenthesis limit 0 all >>= λ p. Ok (y.word, p.0, p.1)) else too_deep all) (is_below_is limit 0 lt) ∙ g.is })
 
 proof_goes : (limit : Limit) (ts : Tokens) (u v w x y z c : Terminal) → Is kind.Proof u → IsId v → Is kind.Dot w → IsId x → Is kind.Open y → IsBelow limit 0 → Balanced limit 1 ts → Is kind.Close z → Is kind.Close c → (us : Tokens)
     → Gets (proof limit (u ∷ v ∷ w ∷ x ∷ y ∷ (ts ++ z ∷ c ∷ us))) (proof_of v.word x.word y.word z.word, us)

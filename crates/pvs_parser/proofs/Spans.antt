@@ -8,7 +8,7 @@ abbrev pub AreWithin : ℕ → List Token → Type 0
 AreWithin to [] = Unit {0}
 AreWithin to (t ∷ ts) = (t.start ≤ t.end) × (t.end ≤ to) × AreWithin to ts
 
-from_below : (from to : ℕ) (tokens : List Token) → AreSpans from to tokens → from ≤ to
+pub from_below : (from to : ℕ) (tokens : List Token) → AreSpans from to tokens → from ≤ to
 from_below from to [] h = h
 from_below from to (t ∷ ts) h = let rest = from_below t.end to ts h.2 in omega arith
 

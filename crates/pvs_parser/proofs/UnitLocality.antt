@@ -19,19 +19,19 @@ use Rattle.pvs_syntax.specs.declared.unit.Item.{Item}
 use Rattle.pvs_syntax.specs.declared.unit.Item.TheVariants as item
 use Rattle.pvs_syntax.specs.declared.unit.Unit as tree
 use Rattle.pvs_parser.specs.Terminals.{IsId, is_id, same_kind}
-use Rattle.pvs_parser.specs.Language.{Tokens, Limit, Item as ListItem, instance, cleared, outermost, inside}
+use Rattle.pvs_parser.specs.Language.{Tokens, Limit, Item as ListItem, instance, without_marks, outermost, in_frame}
 use Rattle.pvs_parser.specs.Units.{DerivesDecl, DerivesAssumed, type_formal, const_formal, type_decl, var_decl, const_decl, formula_of}
 use Rattle.pvs_syntax.specs.Words.{spelling}
-use Rattle.pvs_parser.specs.Descent.{Answer, Read, either, stop, too_many, too_deep, after, expect, id, is_below, crowded, list_from, entries}
+use Rattle.pvs_parser.specs.Descent.{Answer, Read, either, stop, too_many, too_deep, after, expect, id, is_below, end_of_list, list_from, entries}
 use Rattle.pvs_base.specs.Answers.{◌>>=◌}
-use Rattle.pvs_parser.specs.UnitDescent.{expr, type, name, ids, actuals, inst, instances_from, importing, plus, formal_of, formal_after, formal, formals_from, formals, formal_part, variables, body, constant, function, constants, type_definition, type_decls, types, formula, formulas, stated, declared_of, declared, named, begun, declaration, assumed_of, assumed_after, assumed, comes_kind, comes_decl, past_semicolon, many_from, declarations, assumptions, assuming_part, heading, same_name, ending, theory, balanced_of, balanced, script, target, proof, one_item, items_from, unit}
+use Rattle.pvs_parser.specs.UnitDescent.{expr, type, name, ids, actuals, inst, instances_from, importing, plus, formal_of, formal_after, formal, formals_from, formals, formal_part, variables, body, constant, function, constants, type_definition, type_decls, types, formula, formulas, formulas_or_constants, decls_of_kind, decls_after_colon, declaration_of_names, declaration_from_id, declaration, assuming_decls_of_kind, assuming_decls_after_colon, assuming_decl, comes_kind, comes_decl, past_semicolon, many_from, declarations, assumptions, assuming_part, heading, same_name, ending, theory, closing_parenthesis_of, closing_parenthesis, script, target, proof, one_item, items_from, unit}
 use Rattle.pvs_parser.proofs.Yields.{Yields}
 use Rattle.pvs_parser.proofs.Deeper.{Fore}
 use Rattle.pvs_parser.proofs.Decls.{declaration_sound, assumed_sound}
 use Rattle.pvs_parser.proofs.DeclsRead.{decl_comes, assumed_comes}
 use Rattle.pvs_parser.proofs.WholeUnits.{IsItem, item_sound, item_some}
 use Rattle.pvs_parser.proofs.Cuts.{Cut, Mode, Meets, Took, Later, later_trans, Low, Shape, two, three, Goes, Shrinks, Agrees, Rooms, beyond, bind_later, bind_past, after_later, after_past, done_two, done_three, weaken, raise, deep, heads, stops, pick, expect_then, id_then, room_then, length_cut}
-use Rattle.pvs_parser.proofs.Locality.{Paired, Lists, Items, crowded_past, list_past, list_goes, raise_to, start_enough, id_stops, crowded_goes, whole_expr, whole_type, whole_framed, Fits, fits_less, fits_later, Turns, turns_less, no_turn}
+use Rattle.pvs_parser.proofs.Locality.{Paired, Lists, Items, crowded_past, list_past, list_goes, raise_to, start_enough, id_stops, crowded_goes, whole_expr, whole_type, whole_framed, HasSpace, fits_less, fits_later, Turns, turns_less, no_turn}
 
 -- a function of tokens that follows another one
 abbrev pub Follows : {X : Type 0} → Cut → Shape X → (Tokens → Answer X) → (Tokens → Answer X) → Type 0
@@ -161,7 +161,7 @@ stop_first cut s t mode m vs ws i took = stops cut s mode m (t ∷ vs) (t ∷ ws
 formal_of_goes : (cut : Cut) (a b : Limit) → Paired cut a b → (xs : List Word) (k : TerminalKind) → Firsts cut two (λ t ts. formal_of a xs t ts k) (λ t ts. formal_of b xs t ts k)
 formal_of_goes cut a b p xs kind.Type = taken_first cut two _ _ (plus_goes cut (λ z. map (type_formal z) xs))
 formal_of_goes cut a b p xs kind.NonemptyType = taken_first cut two _ _ (λ mode m ts us i. done_two cut mode m (map (type_formal true) xs) ts us i)
-formal_of_goes cut a b p xs _ = types_first cut a b p (inside outermost) (λ c. map (const_formal c) xs)
+formal_of_goes cut a b p xs _ = types_first cut a b p (in_frame outermost) (λ c. map (const_formal c) xs)
 
 formal_after_goes : (cut : Cut) (a b : Limit) → Paired cut a b → (xs : List Word) → Follows cut two (formal_after a xs) (formal_after b xs)
 formal_after_goes cut a b p xs mode m ts us h =
@@ -179,7 +179,7 @@ name_test t ts c = id_test t ts c >>= λ p. Ok (p.0, outermost, p.1)
 
 -- names behind such a test
 abbrev names_test : ℕ → Terminal → Tokens → Bool → Read (List Word)
-names_test k t ts c = name_test t ts c >>= λ p. either (after kind.Comma p.2) (λ us. list_from is_id name k (p.0 ∷ []) (cleared p.1) us) (Ok (p.0 ∷ [], p.1, p.2))
+names_test k t ts c = name_test t ts c >>= λ p. either (after kind.Comma p.2) (λ us. list_from is_id name k (p.0 ∷ []) (without_marks p.1) us) (Ok (p.0 ∷ [], p.1, p.2))
 
 -- the names, without the nesting
 abbrev names_of : Read (List Word) → Answer (List Word × Tokens)
@@ -202,10 +202,10 @@ formal_rejects b t ts is le = first (entries b (t ∷ ts)) le where
   first zero le = absurd (omega (arith, le))
   first (suc k) le = ap (λ c. rest (names_test k t ts c)) is
 
-formals_excused : (cut : Cut) (b : Limit) → b ≡ None → cut.excused reason.TooNested ≡ true → (j : ℕ) (found : List Formal) → Follows cut two (crowded is_id) (formals_from b (suc j) found)
+formals_excused : (cut : Cut) (b : Limit) → b ≡ None → cut.excused reason.TooNested ≡ true → (j : ℕ) (found : List Formal) → Follows cut two (end_of_list is_id) (formals_from b (suc j) found)
 unfolding formals_from
 formals_excused cut b none ex j found mode m ts us h =
-    heads cut two mode m (λ z. crowded is_id z) (λ z. formals_from b (suc j) found z) ts us h (omega arith) (λ a la t vs ws i took less. one a t vs ws i (is_id t.kind) refl) where
+    heads cut two mode m (λ z. end_of_list is_id z) (λ z. formals_from b (suc j) found z) ts us h (omega arith) (λ a la t vs ws i took less. one a t vs ws i (is_id t.kind) refl) where
       some : (t : Terminal) (ws : Tokens) → 1 ≤ entries b (t ∷ ws)
       some t ws = subst (λ z. 1 ≤ entries z (t ∷ ws)) (sym none) (omega arith)
 
@@ -222,7 +222,7 @@ formals_excused cut b none ex j found mode m ts us h =
 
 -- the entries that two readings may have, where the second one has no limit if they are not as many
 abbrev Room : Cut → Limit → Mode → ℕ → ℕ → ℕ → Type 0
-Room cut b mode k j m = (k ≡ j) ⊎ ((b ≡ None) × (cut.excused reason.TooNested ≡ true) × Fits mode cut.there m j)
+Room cut b mode k j m = (k ≡ j) ⊎ ((b ≡ None) × (cut.excused reason.TooNested ≡ true) × HasSpace mode cut.there m j)
 
 room_less : (cut : Cut) (b : Limit) (mode later : Mode) (k j m : ℕ) → Later mode later → Low later (m - 1) m → Room cut b mode (suc k) (suc j) m → Room cut b later k j (m - 1)
 room_less cut b mode later k j m l h (inl e) = inl (omega (arith, e))
@@ -254,7 +254,7 @@ formals_list cut a b p Mode.Before m ts us (q, e, e2, le) =
 
 formals_goes : (cut : Cut) (a b : Limit) → Paired cut a b → FollowsTook cut two (formals a) (formals b)
 formals_goes cut a b p mode m ts us h =
-    room_then cut two mode m a b p.rooms outermost (inside outermost) _ _ ts us h
+    room_then cut two mode m a b p.rooms outermost (in_frame outermost) _ _ ts us h
     (bind_of cut two two _ _ _ _ (formals_list cut a b p) (λ x mode m us i. expect_of cut two kind.CloseBracket _ _ (λ mode m vs ws t. done_two cut mode m x.0 vs ws (weaken cut mode m vs ws t)) mode m x.1 us i) mode m ts us (weaken cut mode m ts us h))
 
 formal_part_goes : (cut : Cut) (a b : Limit) → Paired cut a b → Follows cut two (formal_part a) (formal_part b)
@@ -304,11 +304,11 @@ formulas_goes cut a b p [] f = stop_first cut two
 formulas_goes cut a b p (w ∷ []) f = taken_first cut two _ _ (formula_goes cut a b p w f)
 formulas_goes cut a b p (w ∷ v ∷ xs) f = stop_first cut two
 
-stated_goes : (cut : Cut) (a b : Limit) → Paired cut a b → (xs : List Word) (o : Option FormulaWord) → Firsts cut two (λ t ts. stated a xs t ts o) (λ t ts. stated b xs t ts o)
+stated_goes : (cut : Cut) (a b : Limit) → Paired cut a b → (xs : List Word) (o : Option FormulaWord) → Firsts cut two (λ t ts. formulas_or_constants a xs t ts o) (λ t ts. formulas_or_constants b xs t ts o)
 stated_goes cut a b p xs (Some f) = formulas_goes cut a b p xs f
 stated_goes cut a b p xs None = λ t mode m vs ws i taken. constants_goes cut a b p xs mode m (t ∷ vs) (t ∷ ws) i
 
-declared_of_goes : (cut : Cut) (a b : Limit) → Paired cut a b → (xs : List Word) (k : TerminalKind) → Firsts cut two (λ t ts. declared_of a xs t ts k) (λ t ts. declared_of b xs t ts k)
+declared_of_goes : (cut : Cut) (a b : Limit) → Paired cut a b → (xs : List Word) (k : TerminalKind) → Firsts cut two (λ t ts. decls_of_kind a xs t ts k) (λ t ts. decls_of_kind b xs t ts k)
 declared_of_goes cut a b p xs kind.Type = taken_first cut two _ _ (types_goes cut a b p xs)
 declared_of_goes cut a b p xs kind.NonemptyType = taken_first cut two _ _ (λ mode m ts us i. done_two cut mode m (map (type_decl true) xs) ts us i)
 declared_of_goes cut a b p xs kind.Var = taken_first cut two _ _ (variables_goes cut a b p xs)
@@ -316,11 +316,11 @@ declared_of_goes cut a b p xs kind.Axiom = stated_goes cut a b p xs (formula_of 
 declared_of_goes cut a b p xs kind.Lemma = stated_goes cut a b p xs (formula_of kind.Lemma)
 declared_of_goes cut a b p xs _ = stated_goes cut a b p xs None
 
-declared_goes : (cut : Cut) (a b : Limit) → Paired cut a b → (xs : List Word) → Follows cut two (declared a xs) (declared b xs)
+declared_goes : (cut : Cut) (a b : Limit) → Paired cut a b → (xs : List Word) → Follows cut two (decls_after_colon a xs) (decls_after_colon b xs)
 declared_goes cut a b p xs mode m ts us h =
-    heads cut two mode m (λ z. declared a xs z) (λ z. declared b xs z) ts us h (omega arith) (λ c lc t vs ws i took less. declared_of_goes cut a b p xs t.kind t c m vs ws i took)
+    heads cut two mode m (λ z. decls_after_colon a xs z) (λ z. decls_after_colon b xs z) ts us h (omega arith) (λ c lc t vs ws i took less. declared_of_goes cut a b p xs t.kind t c m vs ws i took)
 
-named_goes : (cut : Cut) (a b : Limit) → Paired cut a b → Follows cut two (named a) (named b)
+named_goes : (cut : Cut) (a b : Limit) → Paired cut a b → Follows cut two (declaration_of_names a) (declaration_of_names b)
 named_goes cut a b p = bind_of cut two two _ _ _ _ (ids_goes cut a b p) (λ x mode m us i. expect_of cut two kind.Colon _ _ (took cut two _ _ (declared_goes cut a b p x.0)) mode m x.1 us i)
 
 -- what an identifier begins takes it
@@ -338,24 +338,24 @@ ids_take cut a b p t ts is h = of_entries (entries a (t ∷ ts)) (p.some t ts) w
   of_entries zero le = absurd (omega (arith, le))
   of_entries (suc k) le = bind_past cut three two (list_from is_id name (suc k) [] outermost (t ∷ ts)) _ (id_taken k (is_id t.kind) is) (λ x hx. hx)
 
-named_takes : (cut : Cut) (a b : Limit) → Paired cut a b → (t : Terminal) (ts : Tokens) → IsId t → length ts ≤ length cut.here → Shrinks cut two (named a (t ∷ ts))
+named_takes : (cut : Cut) (a b : Limit) → Paired cut a b → (t : Terminal) (ts : Tokens) → IsId t → length ts ≤ length cut.here → Shrinks cut two (declaration_of_names a (t ∷ ts))
 named_takes cut a b p t ts is h = bind_past cut two two (ids a (t ∷ ts)) _ (ids_take cut a b p t ts is h) (λ x hx. expect_of cut two kind.Colon _ _ (took cut two _ _ (declared_goes cut a b p x.0)) Mode.Past 0 x.1 x.1 hx)
 
-begun_past : (cut : Cut) (a b : Limit) → Paired cut a b → (ts : Tokens) → length ts ≤ length cut.here → Shrinks cut two (begun a ts)
+begun_past : (cut : Cut) (a b : Limit) → Paired cut a b → (ts : Tokens) → length ts ≤ length cut.here → Shrinks cut two (declaration_from_id a ts)
 begun_past cut a b p [] h = h
 begun_past cut a b p (t ∷ ts) h = one (is_id t.kind) where
-  one : (c : Bool) → Shrinks cut two (id_test t ts c >>= λ p. either (after kind.Open p.1) (λ us. function a p.0 us) (named a (t ∷ ts)))
-  one true = after_past cut two kind.Open _ (λ z. named a (t ∷ ts)) ts (omega (arith, h)) (λ vs lt. function_goes cut a b p t.word Mode.Past 0 vs vs lt) (λ vs le. named_goes cut a b p Mode.Past 0 (t ∷ ts) (t ∷ ts) h)
+  one : (c : Bool) → Shrinks cut two (id_test t ts c >>= λ p. either (after kind.Open p.1) (λ us. function a p.0 us) (declaration_of_names a (t ∷ ts)))
+  one true = after_past cut two kind.Open _ (λ z. declaration_of_names a (t ∷ ts)) ts (omega (arith, h)) (λ vs lt. function_goes cut a b p t.word Mode.Past 0 vs vs lt) (λ vs le. named_goes cut a b p Mode.Past 0 (t ∷ ts) (t ∷ ts) h)
   one false = h
 
-begun_last : (cut : Cut) (a b : Limit) → Paired cut a b → (t : Terminal) (ts : Tokens) → IsId t → length ts ≤ length cut.here → Shrinks cut two (either (after kind.Open ts) (λ us. function a t.word us) (named a (t ∷ ts)))
-begun_last cut a b p t ts is h = after_past cut two kind.Open _ (λ z. named a (t ∷ ts)) ts h (λ vs lt. function_goes cut a b p t.word Mode.Past 0 vs vs lt) (λ vs le. named_takes cut a b p t ts is h)
+begun_last : (cut : Cut) (a b : Limit) → Paired cut a b → (t : Terminal) (ts : Tokens) → IsId t → length ts ≤ length cut.here → Shrinks cut two (either (after kind.Open ts) (λ us. function a t.word us) (declaration_of_names a (t ∷ ts)))
+begun_last cut a b p t ts is h = after_past cut two kind.Open _ (λ z. declaration_of_names a (t ∷ ts)) ts h (λ vs lt. function_goes cut a b p t.word Mode.Past 0 vs vs lt) (λ vs le. named_takes cut a b p t ts is h)
 
-begun_before : (cut : Cut) (a b : Limit) → Paired cut a b → (m : ℕ) (q : Tokens) → length q ≤ m → Agrees cut two m (begun a (q ++ cut.here)) (begun b (q ++ cut.there))
+begun_before : (cut : Cut) (a b : Limit) → Paired cut a b → (m : ℕ) (q : Tokens) → length q ≤ m → Agrees cut two m (declaration_from_id a (q ++ cut.here)) (declaration_from_id b (q ++ cut.there))
 begun_before cut a b p m [] le = beyond cut two m _ _ (begun_past cut a b p cut.here (omega arith))
 begun_before cut a b p m (t ∷ []) le = one (is_id t.kind) refl where
-  one : (c : Bool) → is_id t.kind ≡ c → Agrees cut two m (id_test t cut.here c >>= λ p. either (after kind.Open p.1) (λ us. function a p.0 us) (named a (t ∷ cut.here)))
-      (id_test t cut.there c >>= λ p. either (after kind.Open p.1) (λ us. function b p.0 us) (named b (t ∷ cut.there)))
+  one : (c : Bool) → is_id t.kind ≡ c → Agrees cut two m (id_test t cut.here c >>= λ p. either (after kind.Open p.1) (λ us. function a p.0 us) (declaration_of_names a (t ∷ cut.here)))
+      (id_test t cut.there c >>= λ p. either (after kind.Open p.1) (λ us. function b p.0 us) (declaration_of_names b (t ∷ cut.there)))
   one true is = beyond cut two m _ _ (begun_last cut a b p t cut.here is (omega arith))
   one false is = stops cut two Mode.Before m (t ∷ cut.here) (t ∷ cut.there) (t ∷ [], refl, refl, le)
 begun_before cut a b p m (t ∷ u ∷ q) le = one (is_id t.kind) where
@@ -365,34 +365,34 @@ begun_before cut a b p m (t ∷ u ∷ q) le = one (is_id t.kind) where
   us : Tokens
   us = t ∷ u ∷ (q ++ cut.there)
 
-  behind : (e : Bool) → Agrees cut two m (either (if e then Some (q ++ cut.here) else None) (λ us. function a t.word us) (named a ts)) (either (if e then Some (q ++ cut.there) else None) (λ us. function b t.word us) (named b us))
+  behind : (e : Bool) → Agrees cut two m (either (if e then Some (q ++ cut.here) else None) (λ us. function a t.word us) (declaration_of_names a ts)) (either (if e then Some (q ++ cut.there) else None) (λ us. function b t.word us) (declaration_of_names b us))
   behind true = function_goes cut a b p t.word Mode.Before m (q ++ cut.here) (q ++ cut.there) (q, refl, refl, omega (arith, le))
   behind false = named_goes cut a b p Mode.Before m ts us (t ∷ u ∷ q, refl, refl, le)
 
-  one : (c : Bool) → Agrees cut two m (id_test t (u ∷ (q ++ cut.here)) c >>= λ p. either (after kind.Open p.1) (λ us. function a p.0 us) (named a ts))
-      (id_test t (u ∷ (q ++ cut.there)) c >>= λ p. either (after kind.Open p.1) (λ us. function b p.0 us) (named b us))
+  one : (c : Bool) → Agrees cut two m (id_test t (u ∷ (q ++ cut.here)) c >>= λ p. either (after kind.Open p.1) (λ us. function a p.0 us) (declaration_of_names a ts))
+      (id_test t (u ∷ (q ++ cut.there)) c >>= λ p. either (after kind.Open p.1) (λ us. function b p.0 us) (declaration_of_names b us))
   one true = behind (same_kind u.kind kind.Open)
   one false = stops cut two Mode.Before m ts us (t ∷ u ∷ q, refl, refl, le)
 
-begun_goes : (cut : Cut) (a b : Limit) → Paired cut a b → Follows cut two (begun a) (begun b)
+begun_goes : (cut : Cut) (a b : Limit) → Paired cut a b → Follows cut two (declaration_from_id a) (declaration_from_id b)
 begun_goes cut a b p Mode.Past m ts us h = begun_past cut a b p ts h
 begun_goes cut a b p Mode.Before m ts us (q, e, e2, le) =
-    subst (λ z. Agrees cut two m (begun a z) (begun b us)) (sym e) (subst (λ z. Agrees cut two m (begun a (q ++ cut.here)) (begun b z)) (sym e2) (begun_before cut a b p m q le))
+    subst (λ z. Agrees cut two m (declaration_from_id a z) (declaration_from_id b us)) (sym e) (subst (λ z. Agrees cut two m (declaration_from_id a (q ++ cut.here)) (declaration_from_id b z)) (sym e2) (begun_before cut a b p m q le))
 
 declaration_goes : (cut : Cut) (a b : Limit) → Paired cut a b → Follows cut two (declaration a) (declaration b)
-declaration_goes cut a b p = after_of cut two kind.Importing _ _ (λ z. begun a z) (λ z. begun b z) (took cut two _ _ (importing_goes cut a b p)) (begun_goes cut a b p)
+declaration_goes cut a b p = after_of cut two kind.Importing _ _ (λ z. declaration_from_id a z) (λ z. declaration_from_id b z) (took cut two _ _ (importing_goes cut a b p)) (begun_goes cut a b p)
 
-assumed_of_goes : (cut : Cut) (a b : Limit) → Paired cut a b → (xs : List Word) (k : TerminalKind) → Firsts cut two (λ t ts. assumed_of a xs t ts k) (λ t ts. assumed_of b xs t ts k)
+assumed_of_goes : (cut : Cut) (a b : Limit) → Paired cut a b → (xs : List Word) (k : TerminalKind) → Firsts cut two (λ t ts. assuming_decls_of_kind a xs t ts k) (λ t ts. assuming_decls_of_kind b xs t ts k)
 assumed_of_goes cut a b p xs kind.Var = taken_first cut two _ _ (variables_goes cut a b p xs)
 assumed_of_goes cut a b p xs kind.Assumption = formulas_goes cut a b p xs formula_word.Assumption
 assumed_of_goes cut a b p xs _ = stop_first cut two
 
-assumed_after_goes : (cut : Cut) (a b : Limit) → Paired cut a b → (xs : List Word) → Follows cut two (assumed_after a xs) (assumed_after b xs)
+assumed_after_goes : (cut : Cut) (a b : Limit) → Paired cut a b → (xs : List Word) → Follows cut two (assuming_decls_after_colon a xs) (assuming_decls_after_colon b xs)
 assumed_after_goes cut a b p xs mode m ts us h =
-    heads cut two mode m (λ z. assumed_after a xs z) (λ z. assumed_after b xs z) ts us h (omega arith) (λ c lc t vs ws i took less. assumed_of_goes cut a b p xs t.kind t c m vs ws i took)
+    heads cut two mode m (λ z. assuming_decls_after_colon a xs z) (λ z. assuming_decls_after_colon b xs z) ts us h (omega arith) (λ c lc t vs ws i took less. assumed_of_goes cut a b p xs t.kind t c m vs ws i took)
 
-assumed_goes : (cut : Cut) (a b : Limit) → Paired cut a b → Follows cut two (assumed a) (assumed b)
-assumed_goes cut a b p = after_of cut two kind.Importing _ _ (λ z. ids a z >>= λ p. expect kind.Colon p.1 >>= λ us. assumed_after a p.0 us) (λ z. ids b z >>= λ p. expect kind.Colon p.1 >>= λ us. assumed_after b p.0 us)
+assumed_goes : (cut : Cut) (a b : Limit) → Paired cut a b → Follows cut two (assuming_decl a) (assuming_decl b)
+assumed_goes cut a b p = after_of cut two kind.Importing _ _ (λ z. ids a z >>= λ p. expect kind.Colon p.1 >>= λ us. assuming_decls_after_colon a p.0 us) (λ z. ids b z >>= λ p. expect kind.Colon p.1 >>= λ us. assuming_decls_after_colon b p.0 us)
     (took cut two _ _ (importing_goes cut a b p)) (bind_of cut two two _ _ _ _ (ids_goes cut a b p) (λ x mode m us i. expect_of cut two kind.Colon _ _ (took cut two _ _ (assumed_after_goes cut a b p x.0)) mode m x.1 us i))
 
 -- ---- declarations one behind another
@@ -471,8 +471,8 @@ many_goes cut f g h s mode m ts us i =
 declaration_shorter : (a : Limit) → Shorter (declaration a)
 declaration_shorter a = fore_shorter (declaration a) (DerivesDecl a) (declaration_sound a) (λ ts x d. let c = decl_comes a ts x d in (c.0, c.1, c.2))
 
-assumed_shorter : (a : Limit) → Shorter (assumed a)
-assumed_shorter a = fore_shorter (assumed a) (DerivesAssumed a) (assumed_sound a) (λ ts x d. let c = assumed_comes a ts x d in (c.0, c.1, c.2))
+assumed_shorter : (a : Limit) → Shorter (assuming_decl a)
+assumed_shorter a = fore_shorter (assuming_decl a) (DerivesAssumed a) (assumed_sound a) (λ ts x d. let c = assumed_comes a ts x d in (c.0, c.1, c.2))
 
 declarations_goes : (cut : Cut) (a b : Limit) → Paired cut a b → Follows cut two (declarations a) (declarations b)
 declarations_goes cut a b p = many_goes cut (declaration a) (declaration b) (declaration_goes cut a b p) (declaration_shorter a)
@@ -480,7 +480,7 @@ declarations_goes cut a b p = many_goes cut (declaration a) (declaration b) (dec
 -- ---- theories
 
 assumptions_goes : (cut : Cut) (a b : Limit) → Paired cut a b → Follows cut two (assumptions a) (assumptions b)
-assumptions_goes cut a b p = bind_of cut two two _ _ _ _ (many_goes cut (assumed a) (assumed b) (assumed_goes cut a b p) (assumed_shorter a)) (λ x mode m us i.
+assumptions_goes cut a b p = bind_of cut two two _ _ _ _ (many_goes cut (assuming_decl a) (assuming_decl b) (assumed_goes cut a b p) (assumed_shorter a)) (λ x mode m us i.
     expect_of cut two kind.EndAssuming _ _ (λ mode m vs ws t. done_two cut mode m x.0 vs ws (weaken cut mode m vs ws t)) mode m x.1 us i)
 
 assuming_goes : (cut : Cut) (a b : Limit) → Paired cut a b → Follows cut two (assuming_part a) (assuming_part b)
@@ -525,7 +525,7 @@ open_goes cut u a b rooms n mode m o p ts us t h = one (is_below a n) (is_below 
     other (inl e) = inl e
     other (inr e) = inr (ap (λ z. if z then p else too_deep us) e)
 
-balanced_of_past : (cut : Cut) (a : Limit) (n : ℕ) (t : Terminal) (ts : Tokens) (go : ℕ → Answer (Word × Tokens)) → length ts < length cut.here → ((i : ℕ) → Shrinks cut two (go i)) → (k : TerminalKind) → Shrinks cut two (balanced_of a n t ts go k)
+balanced_of_past : (cut : Cut) (a : Limit) (n : ℕ) (t : Terminal) (ts : Tokens) (go : ℕ → Answer (Word × Tokens)) → length ts < length cut.here → ((i : ℕ) → Shrinks cut two (go i)) → (k : TerminalKind) → Shrinks cut two (closing_parenthesis_of a n t ts go k)
 balanced_of_past cut a n t ts go h g kind.Open = one (is_below a (suc n)) where
   one : (x : Bool) → Shrinks cut two (if x then go (suc n) else too_deep ts)
   one true = g (suc n)
@@ -534,31 +534,31 @@ balanced_of_past cut a zero t ts go h g kind.Close = omega (arith, h)
 balanced_of_past cut a (suc n) t ts go h g kind.Close = g n
 balanced_of_past cut a n t ts go h g _ = g n
 
-balanced_past : (cut : Cut) (a : Limit) (ts : Tokens) (n : ℕ) → length ts ≤ length cut.here → Shrinks cut two (balanced a n ts)
-unfolding balanced
+balanced_past : (cut : Cut) (a : Limit) (ts : Tokens) (n : ℕ) → length ts ≤ length cut.here → Shrinks cut two (closing_parenthesis a n ts)
+unfolding closing_parenthesis
 balanced_past cut a [] n h = h
-balanced_past cut a (t ∷ ts) n h = balanced_of_past cut a n t ts (λ i. balanced a i ts) (omega (arith, h)) (λ i. balanced_past cut a ts i (omega (arith, h))) t.kind
+balanced_past cut a (t ∷ ts) n h = balanced_of_past cut a n t ts (λ i. closing_parenthesis a i ts) (omega (arith, h)) (λ i. balanced_past cut a ts i (omega (arith, h))) t.kind
 
 balanced_of_goes : (cut : Cut) (a b : Limit) → Rooms cut a b → (n m : ℕ) (t : Terminal) (q : Tokens) → length q ≤ m → (go other : ℕ → Answer (Word × Tokens)) → ((i : ℕ) → Agrees cut two m (go i) (other i)) → (k : TerminalKind)
-    → Agrees cut two m (balanced_of a n t (q ++ cut.here) go k) (balanced_of b n t (q ++ cut.there) other k)
+    → Agrees cut two m (closing_parenthesis_of a n t (q ++ cut.here) go k) (closing_parenthesis_of b n t (q ++ cut.there) other k)
 balanced_of_goes cut a b rooms n m t q le go other g kind.Open = open_goes cut two a b rooms (suc n) Mode.Before m (go (suc n)) (other (suc n)) (q ++ cut.here) (q ++ cut.there) (q, refl, refl, le) (g (suc n))
 balanced_of_goes cut a b rooms zero m t q le go other g kind.Close = done_two cut Mode.Before m t.word (q ++ cut.here) (q ++ cut.there) (q, refl, refl, le)
 balanced_of_goes cut a b rooms (suc n) m t q le go other g kind.Close = g n
 balanced_of_goes cut a b rooms n m t q le go other g _ = g n
 
-balanced_before : (cut : Cut) (a b : Limit) → Rooms cut a b → (q : Tokens) (n m : ℕ) → length q ≤ m → Agrees cut two m (balanced a n (q ++ cut.here)) (balanced b n (q ++ cut.there))
-unfolding balanced
+balanced_before : (cut : Cut) (a b : Limit) → Rooms cut a b → (q : Tokens) (n m : ℕ) → length q ≤ m → Agrees cut two m (closing_parenthesis a n (q ++ cut.here)) (closing_parenthesis b n (q ++ cut.there))
+unfolding closing_parenthesis
 balanced_before cut a b rooms [] n m le = beyond cut two m _ _ (balanced_past cut a cut.here n (omega arith))
 balanced_before cut a b rooms (t ∷ q) n m le =
-    balanced_of_goes cut a b rooms n m t q (omega (arith, le)) (λ i. balanced a i (q ++ cut.here)) (λ i. balanced b i (q ++ cut.there)) (λ i. balanced_before cut a b rooms q i m (omega (arith, le))) t.kind
+    balanced_of_goes cut a b rooms n m t q (omega (arith, le)) (λ i. closing_parenthesis a i (q ++ cut.here)) (λ i. closing_parenthesis b i (q ++ cut.there)) (λ i. balanced_before cut a b rooms q i m (omega (arith, le))) t.kind
 
-balanced_goes : (cut : Cut) (a b : Limit) → Rooms cut a b → (n : ℕ) → Follows cut two (balanced a n) (balanced b n)
+balanced_goes : (cut : Cut) (a b : Limit) → Rooms cut a b → (n : ℕ) → Follows cut two (closing_parenthesis a n) (closing_parenthesis b n)
 balanced_goes cut a b rooms n Mode.Past m ts us i = balanced_past cut a ts n i
-balanced_goes cut a b rooms n Mode.Before m ts us i = at_front cut two m m (balanced a n) (balanced b n) ts us i (λ q le. balanced_before cut a b rooms q n m le)
+balanced_goes cut a b rooms n Mode.Before m ts us i = at_front cut two m m (closing_parenthesis a n) (closing_parenthesis b n) ts us i (λ q le. balanced_before cut a b rooms q n m le)
 
 -- what is open behind a parenthesis
 abbrev script_of : Limit → Terminal → Tokens → Answer (Word × Word × Tokens)
-script_of limit t us = balanced limit 0 us >>= λ p. Ok (t.word, p.0, p.1)
+script_of limit t us = closing_parenthesis limit 0 us >>= λ p. Ok (t.word, p.0, p.1)
 
 abbrev script_in : Limit → Terminal → Tokens → Answer (Word × Word × Tokens)
 script_in limit t us = if is_below limit 0 then script_of limit t us else too_deep us

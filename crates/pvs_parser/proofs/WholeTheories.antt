@@ -13,7 +13,7 @@ use Rattle.pvs_parser.specs.Language.{Limit, IsBelow, Tokens}
 use Rattle.pvs_parser.specs.Units.{DerivesFormalPart, DerivesDecl, DerivesAssumed, DerivesMany, DerivesAssuming, DerivesTheory}
 use Rattle.pvs_syntax.specs.Words.{spelling}
 use Rattle.pvs_parser.specs.Descent.{after}
-use Rattle.pvs_parser.specs.UnitDescent.{declaration, assumed, assumptions, assuming_part, heading, same_name, ending, theory, many_from}
+use Rattle.pvs_parser.specs.UnitDescent.{declaration, assuming_decl, assumptions, assuming_part, heading, same_name, ending, theory, many_from}
 use Rattle.pvs_parser.proofs.Yields.{Yields, here, none, bind, cases}
 use Rattle.pvs_parser.proofs.Gets.{Gets, found, then_, there, absent, takes, names, after_is, both, unglue, from}
 use Rattle.pvs_parser.proofs.DescentSteps.{after_yields, expect_yields, id_bind, Splits, glue, put, alone, nothing}
@@ -67,7 +67,7 @@ heading_sound limit ts = id_bind ts _ (λ t us e is. bind (formal_part_sound lim
 
 assuming_sound : (limit : Limit) (t : Terminal) (ts us : Tokens) → ts ≡ t ∷ us → Is kind.Assuming t → Yields (assumptions limit us) (Fore (DerivesAssuming limit) ts)
 assuming_sound limit t ts us e is =
-    bind (many_sound (assumed limit) (DerivesAssumed limit) (assumed_sound limit) us) (λ p f. bind (expect_yields kind.EndAssuming p.1) (λ vs a. here (t ∷ (f.0 ++ a.0 ∷ []), put e (glue f.1 (alone a.1)), DerivesAssuming.assuming f.0 p.0 t a.0 is f.2 a.2)))
+    bind (many_sound (assuming_decl limit) (DerivesAssumed limit) (assumed_sound limit) us) (λ p f. bind (expect_yields kind.EndAssuming p.1) (λ vs a. here (t ∷ (f.0 ++ a.0 ∷ []), put e (glue f.1 (alone a.1)), DerivesAssuming.assuming f.0 p.0 t a.0 is f.2 a.2)))
 
 pub assuming_part_sound : (limit : Limit) (ts : Tokens) → Yields (assuming_part limit ts) (Fore (DerivesAssuming limit) ts)
 assuming_part_sound limit ts = cases
@@ -114,7 +114,7 @@ assuming_complete : (limit : Limit) → IsBelow limit 0 → (ts : Tokens) (ds : 
 assuming_complete limit some _ _ DerivesAssuming.none us no_assuming = absent _ no_assuming found
 assuming_complete limit some _ _ (DerivesAssuming.assuming ts ds t u is d end) us no_assuming =
     there _ _ (after_is kind.Assuming t ((ts ++ u ∷ []) ++ us) is)
-    (then_ _ (from (λ z. many_from (assumed limit) (length z) [] z) (unglue ts (u ∷ []) both) (many_complete (assumed limit) (DerivesAssumed limit) (assumed_comes limit) (assumed_complete limit some) ts ds d (u ∷ us) (at_end_assuming u us end)))
+    (then_ _ (from (λ z. many_from (assuming_decl limit) (length z) [] z) (unglue ts (u ∷ []) both) (many_complete (assuming_decl limit) (DerivesAssumed limit) (assumed_comes limit) (assumed_complete limit some) ts ds d (u ∷ us) (at_end_assuming u us end)))
     (takes kind.EndAssuming u us _ end found))
 
 same_goes : (text : List ℕ) (w : Word) (p : Word × Tokens) → spelling text w ≡ spelling text p.0 → Gets (same_name text w p) p

@@ -11,7 +11,7 @@ use Rattle.pvs_syntax.specs.declared.expression.Expr.{Expr}
 use Rattle.pvs_syntax.specs.declared.expression.Expr.TheVariants as expr
 use Rattle.pvs_syntax.specs.declared.expression.InfixWord.TheVariants as words
 use Rattle.pvs_parser.specs.Terminals.{same_kind}
-use Rattle.pvs_parser.specs.Language.{bounded, named, untyped}
+use Rattle.pvs_parser.specs.Language.{language_limit, simple_name, untyped_binding}
 use Rattle.pvs_parser.specs.Descent.{Answer, expression, reader, list_from, term_from, compared_from}
 
 abbrev word : ℕ → Word
@@ -31,65 +31,65 @@ abbrev i : ℕ → Terminal
 i n = record { kind = kind.Id; word = word n }
 
 abbrev x : ℕ → Expr
-x n = expr.NameTerm (named (word n))
+x n = expr.NameTerm (simple_name (word n))
 
 abbrev no : Expr → Expr
 no a = expr.Not a (word 0).pos
 
 -- a = NOT b = c
-not_reaches_over_equality : expression bounded (i 1 ∷ t kind.Equal ∷ t kind.Not ∷ i 2 ∷ t kind.Equal ∷ i 3 ∷ []) ≡ reads (expr.Infix words.Equal (x 1) (no (expr.Infix words.Equal (x 2) (x 3))))
+not_reaches_over_equality : expression language_limit (i 1 ∷ t kind.Equal ∷ t kind.Not ∷ i 2 ∷ t kind.Equal ∷ i 3 ∷ []) ≡ reads (expr.Infix words.Equal (x 1) (no (expr.Infix words.Equal (x 2) (x 3))))
 unfolding reader list_from term_from compared_from same_kind
 not_reaches_over_equality = refl
 
 -- a = NOT b AND c
-not_stops_at_and : expression bounded (i 1 ∷ t kind.Equal ∷ t kind.Not ∷ i 2 ∷ t kind.And ∷ i 3 ∷ []) ≡ reads (expr.Infix words.And (expr.Infix words.Equal (x 1) (no (x 2))) (x 3))
+not_stops_at_and : expression language_limit (i 1 ∷ t kind.Equal ∷ t kind.Not ∷ i 2 ∷ t kind.And ∷ i 3 ∷ []) ≡ reads (expr.Infix words.And (expr.Infix words.Equal (x 1) (no (x 2))) (x 3))
 unfolding reader list_from term_from compared_from same_kind
 not_stops_at_and = refl
 
 -- a = b /= c
-equality_goes_left : expression bounded (i 1 ∷ t kind.Equal ∷ i 2 ∷ t kind.Differs ∷ i 3 ∷ []) ≡ reads (expr.Infix words.Differs (expr.Infix words.Equal (x 1) (x 2)) (x 3))
+equality_goes_left : expression language_limit (i 1 ∷ t kind.Equal ∷ i 2 ∷ t kind.Differs ∷ i 3 ∷ []) ≡ reads (expr.Infix words.Differs (expr.Infix words.Equal (x 1) (x 2)) (x 3))
 unfolding reader list_from term_from compared_from same_kind
 equality_goes_left = refl
 
 -- a IMPLIES b IMPLIES c OR d
-implies_goes_right : expression bounded (i 1 ∷ t kind.Implies ∷ i 2 ∷ t kind.Implies ∷ i 3 ∷ t kind.Or ∷ i 4 ∷ []) ≡ reads (expr.Infix words.Implies (x 1) (expr.Infix words.Implies (x 2) (expr.Infix words.Or (x 3) (x 4))))
+implies_goes_right : expression language_limit (i 1 ∷ t kind.Implies ∷ i 2 ∷ t kind.Implies ∷ i 3 ∷ t kind.Or ∷ i 4 ∷ []) ≡ reads (expr.Infix words.Implies (x 1) (expr.Infix words.Implies (x 2) (expr.Infix words.Or (x 3) (x 4))))
 unfolding reader list_from term_from compared_from same_kind
 implies_goes_right = refl
 
 -- a AND FORALL b, c: d IFF a
-binder_reaches : expression bounded (i 1 ∷ t kind.And ∷ t kind.Forall ∷ i 2 ∷ t kind.Comma ∷ i 3 ∷ t kind.Colon ∷ i 4 ∷ t kind.Iff ∷ i 1 ∷ [])
-    ≡ reads (expr.Infix words.And (x 1) (expr.Binder binders.Forall (untyped (word 2) ∷ untyped (word 3) ∷ []) (expr.Infix words.Iff (x 4) (x 1)) (word 0).pos))
+binder_reaches : expression language_limit (i 1 ∷ t kind.And ∷ t kind.Forall ∷ i 2 ∷ t kind.Comma ∷ i 3 ∷ t kind.Colon ∷ i 4 ∷ t kind.Iff ∷ i 1 ∷ [])
+    ≡ reads (expr.Infix words.And (x 1) (expr.Binder binders.Forall (untyped_binding (word 2) ∷ untyped_binding (word 3) ∷ []) (expr.Infix words.Iff (x 4) (x 1)) (word 0).pos))
 unfolding reader list_from term_from compared_from same_kind
 binder_reaches = refl
 
 -- f(a, b)`1(c)
-calls_and_projections : expression bounded (i 1 ∷ t kind.Open ∷ i 2 ∷ t kind.Comma ∷ i 3 ∷ t kind.Close ∷ t kind.Backquote ∷ t kind.Number ∷ t kind.Open ∷ i 4 ∷ t kind.Close ∷ [])
+calls_and_projections : expression language_limit (i 1 ∷ t kind.Open ∷ i 2 ∷ t kind.Comma ∷ i 3 ∷ t kind.Close ∷ t kind.Backquote ∷ t kind.Number ∷ t kind.Open ∷ i 4 ∷ t kind.Close ∷ [])
     ≡ reads (expr.Apply (expr.Project (expr.Apply (x 1) (x 2 ∷ x 3 ∷ [])) (word 0)) (x 4 ∷ []))
 unfolding reader list_from term_from compared_from same_kind
 calls_and_projections = refl
 
 -- (a)   (a, b)
-parentheses : expression bounded (t kind.Open ∷ i 1 ∷ t kind.Close ∷ []) ≡ reads (expr.Paren (x 1) (word 0).pos)
+parentheses : expression language_limit (t kind.Open ∷ i 1 ∷ t kind.Close ∷ []) ≡ reads (expr.Paren (x 1) (word 0).pos)
 unfolding reader list_from term_from compared_from same_kind
 parentheses = refl
 
-tuple : expression bounded (t kind.Open ∷ i 1 ∷ t kind.Comma ∷ i 2 ∷ t kind.Close ∷ []) ≡ reads (expr.TupleTerm (x 1 ∷ x 2 ∷ []) (word 0).pos)
+tuple : expression language_limit (t kind.Open ∷ i 1 ∷ t kind.Comma ∷ i 2 ∷ t kind.Close ∷ []) ≡ reads (expr.TupleTerm (x 1 ∷ x 2 ∷ []) (word 0).pos)
 unfolding reader list_from term_from compared_from same_kind
 tuple = refl
 
 -- IF a THEN b ELSIF c THEN d ELSE a ENDIF
-elsif : expression bounded (t kind.If ∷ i 1 ∷ t kind.Then ∷ i 2 ∷ t kind.Elsif ∷ i 3 ∷ t kind.Then ∷ i 4 ∷ t kind.Else ∷ i 1 ∷ t kind.EndIf ∷ [])
+elsif : expression language_limit (t kind.If ∷ i 1 ∷ t kind.Then ∷ i 2 ∷ t kind.Elsif ∷ i 3 ∷ t kind.Then ∷ i 4 ∷ t kind.Else ∷ i 1 ∷ t kind.EndIf ∷ [])
     ≡ reads (expr.Cond (x 1) (x 2) (expr.Cond (x 3) (x 4) (x 1) (word 0).pos) (word 0).pos)
 unfolding reader list_from term_from compared_from same_kind
 elsif = refl
 
 -- ()
-empty_parentheses : expression bounded (t kind.Open ∷ t kind.Close ∷ []) ≡ stops 1 reason.Unexpected
+empty_parentheses : expression language_limit (t kind.Open ∷ t kind.Close ∷ []) ≡ stops 1 reason.Unexpected
 unfolding reader list_from term_from compared_from same_kind
 empty_parentheses = refl
 
 -- a b
-two_names : expression bounded (i 1 ∷ i 2 ∷ []) ≡ stops 1 reason.Unexpected
+two_names : expression language_limit (i 1 ∷ i 2 ∷ []) ≡ stops 1 reason.Unexpected
 unfolding reader list_from term_from compared_from same_kind
 two_names = refl
 

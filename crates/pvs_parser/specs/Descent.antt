@@ -28,7 +28,7 @@ use Rattle.pvs_syntax.specs.declared.expression.NameExpr.{NameExpr}
 use Rattle.pvs_syntax.specs.declared.expression.TypeExpr.{TypeExpr}
 use Rattle.pvs_syntax.specs.declared.expression.TypeExpr.TheVariants as type_expr
 use Rattle.pvs_parser.specs.Terminals.{is_id, same_kind}
-use Rattle.pvs_parser.specs.Language.{Limit, outermost, level, marked, held, inside, cleared, named, qualified, instance, untyped, typed, equation, empty, grouped, sign, operator, comparison, binder_word, begins_type, Item, Expression, Parameter, Component, Variable, BareVariable, Definition, ItemTree, Tokens}
+use Rattle.pvs_parser.specs.Language.{Limit, outermost, level, with_mark, with_lasting_mark, in_frame, without_marks, simple_name, name_with_theory, instance, untyped_binding, typed_binding, equation, empty_word, group_tree, sign, operator, comparison, binder_word, begins_type, Item, Expression, Parameter, Component, Variable, BareVariable, Definition, ItemTree, Tokens}
 
 -- what is read, or where reading stops
 abbrev pub Answer : Type 0 → Type 0
@@ -39,7 +39,7 @@ abbrev pub either : {A B : Type 0} → Option A → (A → B) → B → B
 either (Some x) f d = f x
 either None f d = d
 
--- a tree, with the nesting behind it and the tokens after it
+-- a tree, with the nesting after it and the tokens after it
 abbrev pub Read : Type 0 → Type 0
 Read A = Answer (A × Nesting × Tokens)
 
@@ -95,15 +95,15 @@ compares [] = None
 compares (t ∷ ts) = compares_of (comparison t.kind) ts
 
 -- the identifier and the colon that come next, and the tokens after them
-abbrev pub labels_of : Word → Option Tokens → Option (Word × Tokens)
-labels_of w None = None
-labels_of w (Some ts) = Some (w, ts)
+abbrev pub label_of : Word → Option Tokens → Option (Word × Tokens)
+label_of w None = None
+label_of w (Some ts) = Some (w, ts)
 
-abbrev pub labels : Tokens → Option (Word × Tokens)
-labels [] = None
-labels (t ∷ ts) = if is_id t.kind then labels_of t.word (after kind.Colon ts) else None
+abbrev pub label : Tokens → Option (Word × Tokens)
+label [] = None
+label (t ∷ ts) = if is_id t.kind then label_of t.word (after kind.Colon ts) else None
 
--- ---- Levels, behind the token that opens a frame or sets a mark.
+-- ---- Levels, after the token that opens a frame or sets a mark.
 
 abbrev pub is_below : Limit → ℕ → Bool
 is_below (Some most) n = nat_lt n most
@@ -113,67 +113,67 @@ abbrev pub with_room : Limit → Nesting → Nesting → Tokens → Answer Nesti
 with_room limit n m ts = if is_below limit (level n) then Ok m else too_deep ts
 
 abbrev pub mark : Limit → Nesting → Tokens → Answer Nesting
-mark limit n ts = with_room limit n (marked n) ts
+mark limit n ts = with_room limit n (with_mark n) ts
 
 abbrev pub hold : Limit → Nesting → Tokens → Answer Nesting
-hold limit n ts = with_room limit n (held n) ts
+hold limit n ts = with_room limit n (with_lasting_mark n) ts
 
 abbrev pub enter : Limit → Nesting → Tokens → Answer Nesting
-enter limit n ts = with_room limit n (inside n) ts
+enter limit n ts = with_room limit n (in_frame n) ts
 
 -- ---- What is read deeper.
 
 -- how expressions and types that stand deeper are read, and the limit
-pub record Go : Type 0 where
+pub record Readers : Type 0 where
   pub limit : Limit
   pub expr : Start → Nesting → Tokens → Read Expr
   pub type : Nesting → Tokens → Read TypeExpr
 
 -- a whole expression
-abbrev pub deeper : Go → Nesting → Tokens → Read Expr
-deeper go l ts = go.expr (start.Chain connective.Iff) l ts
+abbrev pub nested_expr : Readers → Nesting → Tokens → Read Expr
+nested_expr go l ts = go.expr (start.Chain connective.Iff) l ts
 
 -- ---- Items.
 
 -- an actual, whose first terminal may begin a type
-abbrev pub parameter_of : Go → Nesting → Tokens → Bool → Read Actual
+abbrev pub parameter_of : Readers → Nesting → Tokens → Bool → Read Actual
 parameter_of go l ts true = go.type l ts >>= λ p. Ok (actuals.TypeActual p.0, p.1, p.2)
-parameter_of go l ts false = deeper go l ts >>= λ p. Ok (actuals.ExprActual p.0, p.1, p.2)
+parameter_of go l ts false = nested_expr go l ts >>= λ p. Ok (actuals.ExprActual p.0, p.1, p.2)
 
 abbrev pub comes_type : Tokens → Bool
 comes_type [] = false
 comes_type (t ∷ ts) = begins_type t.kind
 
-abbrev pub parameter_with : Go → Nesting → Tokens → Read Actual
+abbrev pub parameter_with : Readers → Nesting → Tokens → Read Actual
 parameter_with go l ts = parameter_of go l ts (comes_type ts)
 
 -- a component without a name
-abbrev pub unnamed_with : Go → Nesting → Tokens → Read Binding
+abbrev pub unnamed_with : Readers → Nesting → Tokens → Read Binding
 unnamed_with go l [] = stop []
-unnamed_with go l (t ∷ ts) = go.type l (t ∷ ts) >>= λ q. Ok (typed (empty t.word) q.0, q.1, q.2)
+unnamed_with go l (t ∷ ts) = go.type l (t ∷ ts) >>= λ q. Ok (typed_binding (empty_word t.word) q.0, q.1, q.2)
 
--- a name, and its type behind the colon
-abbrev pub typed_with : Go → Word → Nesting → Tokens → Read Binding
-typed_with go w l ts = go.type l ts >>= λ q. Ok (typed w q.0, q.1, q.2)
+-- a name, and its type after the colon
+abbrev pub typed_with : Readers → Word → Nesting → Tokens → Read Binding
+typed_with go w l ts = go.type l ts >>= λ q. Ok (typed_binding w q.0, q.1, q.2)
 
-abbrev pub component_with : Go → Nesting → Tokens → Read Binding
-component_with go l ts = either (labels ts) (λ p. typed_with go p.0 l p.1) (unnamed_with go l ts)
+abbrev pub component_with : Readers → Nesting → Tokens → Read Binding
+component_with go l ts = either (label ts) (λ p. typed_with go p.0 l p.1) (unnamed_with go l ts)
 
-abbrev pub variable_with : Go → Nesting → Tokens → Read Binding
-variable_with go l ts = id ts >>= λ p. either (after kind.Colon p.1) (λ us. typed_with go p.0 l us) (Ok (untyped p.0, l, p.1))
+abbrev pub variable_with : Readers → Nesting → Tokens → Read Binding
+variable_with go l ts = id ts >>= λ p. either (after kind.Colon p.1) (λ us. typed_with go p.0 l us) (Ok (untyped_binding p.0, l, p.1))
 
 abbrev pub bare_variable : Nesting → Tokens → Read Binding
-bare_variable l ts = id ts >>= λ p. Ok (untyped p.0, l, p.1)
+bare_variable l ts = id ts >>= λ p. Ok (untyped_binding p.0, l, p.1)
 
 -- the value of a part, with the type that is written
-abbrev pub value_with : Go → Word → Option TypeExpr → Nesting → Tokens → Read LetPart
-value_with go w a l ts = expect kind.Equal ts >>= λ us. deeper go l us >>= λ q. Ok (equation w a q.0, q.1, q.2)
+abbrev pub value_with : Readers → Word → Option TypeExpr → Nesting → Tokens → Read LetPart
+value_with go w a l ts = expect kind.Equal ts >>= λ us. nested_expr go l us >>= λ q. Ok (equation w a q.0, q.1, q.2)
 
-abbrev pub definition_with : Go → Nesting → Tokens → Read LetPart
+abbrev pub definition_with : Readers → Nesting → Tokens → Read LetPart
 definition_with go l ts = id ts >>= λ p. either (after kind.Colon p.1) (λ us. go.type l us >>= λ q. value_with go p.0 (Some q.0) q.1 q.2) (value_with go p.0 None l p.1)
 
-abbrev pub item_with : Go → (i : Item) → Nesting → Tokens → Read (ItemTree i)
-item_with go Expression l ts = deeper go l ts
+abbrev pub item_with : Readers → (i : Item) → Nesting → Tokens → Read (ItemTree i)
+item_with go Expression l ts = nested_expr go l ts
 item_with go Parameter l ts = parameter_with go l ts
 item_with go Component l ts = component_with go l ts
 item_with go Variable l ts = variable_with go l ts
@@ -182,15 +182,15 @@ item_with go Definition l ts = definition_with go l ts
 
 -- ---- Lists.
 
--- Behind the most entries that a list may have: a terminal that may begin one more is one too many.
-abbrev pub crowded : {A : Type 0} → (TerminalKind → Bool) → Tokens → Answer A
-crowded starts [] = stop []
-crowded starts (t ∷ ts) = if starts t.kind then too_many (t ∷ ts) else stop (t ∷ ts)
+-- After the most entries that a list may have: a terminal that may begin one more is one too many.
+abbrev pub end_of_list : {A : Type 0} → (TerminalKind → Bool) → Tokens → Answer A
+end_of_list starts [] = stop []
+end_of_list starts (t ∷ ts) = if starts t.kind then too_many (t ∷ ts) else stop (t ∷ ts)
 
--- items with commas between them, behind those found; at most so many
+-- items with commas between them, after those found; at most so many
 unfoldable pub list_from : {A : Type 0} → (TerminalKind → Bool) → (Nesting → Tokens → Read A) → ℕ → List A → Nesting → Tokens → Read (List A)
-list_from starts reads zero found l ts = crowded starts ts
-list_from starts reads (suc room) found l ts = reads l ts >>= λ p. either (after kind.Comma p.2) (λ us. list_from starts reads room (found ++ p.0 ∷ []) (cleared p.1) us) (Ok (found ++ p.0 ∷ [], p.1, p.2))
+list_from starts reads zero found l ts = end_of_list starts ts
+list_from starts reads (suc room) found l ts = reads l ts >>= λ p. either (after kind.Comma p.2) (λ us. list_from starts reads room (found ++ p.0 ∷ []) (without_marks p.1) us) (Ok (found ++ p.0 ∷ [], p.1, p.2))
 
 -- the terminals that may begin an expression, a type, and an item of a list
 abbrev pub starts_expr : TerminalKind → Bool
@@ -228,51 +228,51 @@ abbrev pub entries : Limit → Tokens → ℕ
 entries (Some most) ts = most
 entries None ts = length ts
 
-abbrev pub list_with : Go → (i : Item) → Nesting → Tokens → Read (List (ItemTree i))
+abbrev pub list_with : Readers → (i : Item) → Nesting → Tokens → Read (List (ItemTree i))
 list_with go i l ts = list_from (starts_item i) (item_with go i) (entries go.limit ts) [] l ts
 
 -- a list in a frame, up to the sign that ends it
-abbrev pub framed_with : Go → (i : Item) → TerminalKind → Nesting → Tokens → Answer (List (ItemTree i) × Tokens)
+abbrev pub framed_with : Readers → (i : Item) → TerminalKind → Nesting → Tokens → Answer (List (ItemTree i) × Tokens)
 framed_with go i end l ts = enter go.limit l ts >>= λ m. list_with go i m ts >>= λ p. expect end p.2 >>= λ us. Ok (p.0, us)
 
 -- ---- Names.
 
 abbrev pub name_of : Word → List Actual → Tokens → Answer (NameExpr × Tokens)
-name_of w xs ts = id ts >>= λ p. Ok (qualified (instance w xs) p.0, p.1)
+name_of w xs ts = id ts >>= λ p. Ok (name_with_theory (instance w xs) p.0, p.1)
 
--- behind an identifier and a bracket
-abbrev pub instance_name_with : Go → Word → Nesting → Tokens → Answer (NameExpr × Tokens)
+-- after an identifier and a bracket
+abbrev pub instance_name_with : Readers → Word → Nesting → Tokens → Answer (NameExpr × Tokens)
 instance_name_with go w l ts = framed_with go Parameter kind.CloseBracket l ts >>= λ p. expect kind.Dot p.1 >>= λ us. name_of w p.0 us
 
--- behind an identifier
-abbrev pub name_after : Go → Word → Nesting → Tokens → Answer (NameExpr × Tokens)
+-- after an identifier
+abbrev pub name_after : Readers → Word → Nesting → Tokens → Answer (NameExpr × Tokens)
 name_after go w l ts = either (after kind.OpenBracket ts) (λ us. instance_name_with go w l us)
-    (either (after kind.Dot ts) (λ us. name_of w [] us) (Ok (named w, ts)))
+    (either (after kind.Dot ts) (λ us. name_of w [] us) (Ok (simple_name w, ts)))
 
 -- ---- Terms.
 
--- a term that was read, and whether a parenthesis behind it sets a mark
+-- a term that was read, and whether a parenthesis after it sets a mark
 abbrev pub First : Type 0
 First = Answer (Expr × Bool × Tokens)
 
-abbrev pub group_with : Go → Nesting → Word → Tokens → First
-group_with go l w ts = framed_with go Expression kind.Close l ts >>= λ p. Ok (grouped w.pos p.0, true, p.1)
+abbrev pub group_with : Readers → Nesting → Word → Tokens → First
+group_with go l w ts = framed_with go Expression kind.Close l ts >>= λ p. Ok (group_tree w.pos p.0, true, p.1)
 
--- the expression behind IF or ELSIF, up to THEN
-abbrev pub condition_with : Go → Nesting → Tokens → Read Expr
-condition_with go l ts = deeper go l ts >>= λ p. expect kind.Then p.2 >>= λ us. Ok (p.0, cleared p.1, us)
+-- the expression after IF or ELSIF, up to THEN
+abbrev pub condition_with : Readers → Nesting → Tokens → Read Expr
+condition_with go l ts = nested_expr go l ts >>= λ p. expect kind.Then p.2 >>= λ us. Ok (p.0, without_marks p.1, us)
 
--- what stands behind IF or ELSIF
-abbrev pub cond_with : Go → Word → Nesting → Tokens → Read Expr
-cond_with go w l ts = condition_with go l ts >>= λ p. deeper go p.1 p.2 >>= λ q. go.expr start.Otherwise q.1 q.2 >>= λ r. Ok (expr.Cond p.0 q.0 r.0 w.pos, r.1, r.2)
+-- what stands after IF or ELSIF
+abbrev pub cond_with : Readers → Word → Nesting → Tokens → Read Expr
+cond_with go w l ts = condition_with go l ts >>= λ p. nested_expr go p.1 p.2 >>= λ q. go.expr start.Otherwise q.1 q.2 >>= λ r. Ok (expr.Cond p.0 q.0 r.0 w.pos, r.1, r.2)
 
-abbrev pub if_with : Go → Nesting → Word → Tokens → First
+abbrev pub if_with : Readers → Nesting → Word → Tokens → First
 if_with go l w ts = enter go.limit l ts >>= λ m. cond_with go w m ts >>= λ p. Ok (p.0, true, p.2)
 
-abbrev pub name_term_with : Go → Nesting → Word → Tokens → First
+abbrev pub name_term_with : Readers → Nesting → Word → Tokens → First
 name_term_with go l w ts = name_after go w l ts >>= λ p. Ok (expr.NameTerm p.0, false, p.1)
 
-abbrev pub first_of : Go → Nesting → Terminal → Tokens → TerminalKind → First
+abbrev pub first_of : Readers → Nesting → Terminal → Tokens → TerminalKind → First
 first_of go l t ts kind.True = Ok (expr.Truth true t.word.pos, false, ts)
 first_of go l t ts kind.False = Ok (expr.Truth false t.word.pos, false, ts)
 first_of go l t ts kind.Id = name_term_with go l t.word ts
@@ -281,50 +281,50 @@ first_of go l t ts kind.Open = group_with go l t.word ts
 first_of go l t ts kind.If = if_with go l t.word ts
 first_of go l t ts _ = stop (t ∷ ts)
 
-abbrev pub first_with : Go → Nesting → Tokens → First
+abbrev pub first_with : Readers → Nesting → Tokens → First
 first_with go l [] = stop []
 first_with go l (t ∷ ts) = first_of go l t ts t.kind
 
--- before a parenthesis behind a term
+-- before a parenthesis after a term
 abbrev pub call_mark : Limit → Bool → Nesting → Tokens → Answer Nesting
 call_mark limit true n ts = mark limit n ts
 call_mark limit false n ts = Ok n
 
-abbrev pub call_with : Go → Bool → Expr → Nesting → Tokens → Read Expr
+abbrev pub call_with : Readers → Bool → Expr → Nesting → Tokens → Read Expr
 call_with go b x l ts = call_mark go.limit b l ts >>= λ m. framed_with go Expression kind.Close m ts >>= λ p. Ok (expr.Apply x p.0, m, p.1)
 
 abbrev pub project : Limit → Expr → Nesting → Tokens → Read Expr
 project limit x l ts = mark limit l ts >>= λ m. number ts >>= λ p. Ok (expr.Project x p.0, m, p.1)
 
--- arguments and projections behind a term; the number bounds the turns, and each turn takes a token
-unfoldable pub term_from : Go → ℕ → Bool → Expr → Nesting → Tokens → Read Expr
+-- arguments and projections after a term; the number bounds the turns, and each turn takes a token
+unfoldable pub term_from : Readers → ℕ → Bool → Expr → Nesting → Tokens → Read Expr
 term_from go zero b x l ts = Ok (x, l, ts)
 term_from go (suc n) b x l ts = either (after kind.Open ts) (λ us. call_with go b x l us >>= λ p. term_from go n true p.0 p.1 p.2)
     (either (after kind.Backquote ts) (λ us. project go.limit x l us >>= λ p. term_from go n true p.0 p.1 p.2) (Ok (x, l, ts)))
 
-abbrev pub term_with : Go → Nesting → Tokens → Read Expr
+abbrev pub term_with : Readers → Nesting → Tokens → Read Expr
 term_with go l ts = first_with go l ts >>= λ p. term_from go (length ts) p.1 p.0 l p.2
 
 -- ---- NOT, binders and LET.
 
-abbrev pub body_with : Go → (List Binding) → BinderWord → Word → Nesting → Tokens → Read Expr
-body_with go bs b w l ts = expect kind.Colon ts >>= λ us. deeper go l us >>= λ p. Ok (expr.Binder b bs p.0 w.pos, p.1, p.2)
+abbrev pub body_with : Readers → (List Binding) → BinderWord → Word → Nesting → Tokens → Read Expr
+body_with go bs b w l ts = expect kind.Colon ts >>= λ us. nested_expr go l us >>= λ p. Ok (expr.Binder b bs p.0 w.pos, p.1, p.2)
 
 -- bindings in parentheses, and the body
-abbrev pub bindings_with : Go → BinderWord → Word → Nesting → Tokens → Read Expr
+abbrev pub bindings_with : Readers → BinderWord → Word → Nesting → Tokens → Read Expr
 bindings_with go b w l ts = framed_with go Variable kind.Close l ts >>= λ p. body_with go p.0 b w l p.1
 
 -- identifiers, and the body
-abbrev pub bare_bindings_with : Go → BinderWord → Word → Nesting → Tokens → Read Expr
+abbrev pub bare_bindings_with : Readers → BinderWord → Word → Nesting → Tokens → Read Expr
 bare_bindings_with go b w l ts = list_with go BareVariable l ts >>= λ p. body_with go p.0 b w p.1 p.2
 
-abbrev pub binder_with : Go → BinderWord → Word → Nesting → Tokens → Read Expr
+abbrev pub binder_with : Readers → BinderWord → Word → Nesting → Tokens → Read Expr
 binder_with go b w l ts = hold go.limit l ts >>= λ m. either (after kind.Open ts) (λ us. bindings_with go b w m us) (bare_bindings_with go b w m ts)
 
-abbrev pub let_with : Go → Word → Nesting → Tokens → Read Expr
-let_with go w l ts = hold go.limit l ts >>= λ m. list_with go Definition m ts >>= λ p. expect kind.In p.2 >>= λ us. deeper go p.1 us >>= λ q. Ok (expr.Let p.0 q.0 w.pos, q.1, q.2)
+abbrev pub let_with : Readers → Word → Nesting → Tokens → Read Expr
+let_with go w l ts = hold go.limit l ts >>= λ m. list_with go Definition m ts >>= λ p. expect kind.In p.2 >>= λ us. nested_expr go p.1 us >>= λ q. Ok (expr.Let p.0 q.0 w.pos, q.1, q.2)
 
-abbrev pub not_with : Go → Word → Nesting → Tokens → Read Expr
+abbrev pub not_with : Readers → Word → Nesting → Tokens → Read Expr
 not_with go w l ts = mark go.limit l ts >>= λ m. go.expr start.Operand m ts >>= λ p. Ok (expr.Not p.0 w.pos, p.1, p.2)
 
 -- what NOT, a binder or LET begins
@@ -345,19 +345,19 @@ abbrev pub begins : Tokens → Option (Prefix × Word × Tokens)
 begins [] = None
 begins (t ∷ ts) = begins_of (prefix t.kind) t.word ts
 
-abbrev pub prefixed_with : Go → Nesting → Prefix → Word → Tokens → Read Expr
+abbrev pub prefixed_with : Readers → Nesting → Prefix → Word → Tokens → Read Expr
 prefixed_with go l prefixes.Negation w ts = not_with go w l ts
 prefixed_with go l (prefixes.Binder b) w ts = binder_with go b w l ts
 prefixed_with go l prefixes.Local w ts = let_with go w l ts
 
 -- ---- Operands and chains.
 
--- what NOT, a binder or LET begins, behind an = or /=
-abbrev pub last_with : Go → InfixWord → Expr → Nesting → Prefix → Word → Tokens → Read Expr
+-- what NOT, a binder or LET begins, after an = or /=
+abbrev pub last_with : Readers → InfixWord → Expr → Nesting → Prefix → Word → Tokens → Read Expr
 last_with go o x l p w ts = prefixed_with go l p w ts >>= λ r. Ok (expr.Infix o x r.0, r.1, r.2)
 
--- what stands behind a term; the number bounds the turns, and each turn takes a token
-unfoldable pub compared_from : Go → ℕ → Expr → Nesting → Tokens → Read Expr
+-- what stands after a term; the number bounds the turns, and each turn takes a token
+unfoldable pub compared_from : Readers → ℕ → Expr → Nesting → Tokens → Read Expr
 compared_from go zero x l ts = Ok (x, l, ts)
 compared_from go (suc n) x l ts = either (compares ts)
     (λ p. mark go.limit l p.1 >>= λ m. either (begins p.1) (λ q. last_with go p.0 x m q.0 q.1 q.2)
@@ -365,75 +365,75 @@ compared_from go (suc n) x l ts = either (compares ts)
     (Ok (x, l, ts))
 
 -- a term, and what it is compared with
-abbrev pub comparison_with : Go → Nesting → Tokens → Read Expr
+abbrev pub comparison_with : Readers → Nesting → Tokens → Read Expr
 comparison_with go l ts = term_with go l ts >>= λ p. compared_from go (length ts) p.0 p.1 p.2
 
-abbrev pub operand_with : Go → Nesting → Tokens → Read Expr
+abbrev pub operand_with : Readers → Nesting → Tokens → Read Expr
 operand_with go l ts = either (begins ts) (λ p. prefixed_with go l p.0 p.1 p.2) (comparison_with go l ts)
 
--- behind a left operand
-abbrev pub chain_after : Go → Connective → Expr → Nesting → Tokens → Read Expr
+-- after a left operand
+abbrev pub chain_after : Readers → Connective → Expr → Nesting → Tokens → Read Expr
 chain_after go c x l ts = either (after (sign c) ts) (λ us. mark go.limit l us >>= λ m. go.expr (start.Chain c) m us >>= λ q. Ok (expr.Infix (operator c) x q.0, q.1, q.2)) (Ok (x, l, ts))
 
-abbrev pub chain_on : Go → Connective → Read Expr → Read Expr
+abbrev pub chain_on : Readers → Connective → Read Expr → Read Expr
 chain_on go c r = r >>= λ p. chain_after go c p.0 p.1 p.2
 
 -- what stands between connectives of this kind
-abbrev pub between_with : Go → Connective → Nesting → Tokens → Read Expr
+abbrev pub between_with : Readers → Connective → Nesting → Tokens → Read Expr
 between_with go connective.And l ts = operand_with go l ts
 between_with go connective.Or l ts = chain_on go connective.And (operand_with go l ts)
 between_with go connective.Implies l ts = chain_on go connective.Or (chain_on go connective.And (operand_with go l ts))
 between_with go connective.Iff l ts = chain_on go connective.Implies (chain_on go connective.Or (chain_on go connective.And (operand_with go l ts)))
 
-abbrev pub chain_with : Go → Connective → Nesting → Tokens → Read Expr
+abbrev pub chain_with : Readers → Connective → Nesting → Tokens → Read Expr
 chain_with go c l ts = chain_on go c (between_with go c l ts)
 
--- behind ELSE
-abbrev pub else_with : Go → Nesting → Tokens → Read Expr
-else_with go l ts = deeper go (cleared l) ts >>= λ p. expect kind.EndIf p.2 >>= λ us. Ok (p.0, p.1, us)
+-- after ELSE
+abbrev pub else_with : Readers → Nesting → Tokens → Read Expr
+else_with go l ts = nested_expr go (without_marks l) ts >>= λ p. expect kind.EndIf p.2 >>= λ us. Ok (p.0, p.1, us)
 
--- behind ELSIF
-abbrev pub elsif_with : Go → Word → Nesting → Tokens → Read Expr
-elsif_with go w l ts = hold go.limit (cleared l) ts >>= λ m. cond_with go w m ts
+-- after ELSIF
+abbrev pub elsif_with : Readers → Word → Nesting → Tokens → Read Expr
+elsif_with go w l ts = hold go.limit (without_marks l) ts >>= λ m. cond_with go w m ts
 
-abbrev pub otherwise_of : Go → Nesting → Terminal → Tokens → TerminalKind → Read Expr
+abbrev pub otherwise_of : Readers → Nesting → Terminal → Tokens → TerminalKind → Read Expr
 otherwise_of go l t ts kind.Else = else_with go l ts
 otherwise_of go l t ts kind.Elsif = elsif_with go t.word l ts
 otherwise_of go l t ts _ = stop (t ∷ ts)
 
--- what stands behind THEN and an expression
-abbrev pub otherwise_with : Go → Nesting → Tokens → Read Expr
+-- what stands after THEN and an expression
+abbrev pub otherwise_with : Readers → Nesting → Tokens → Read Expr
 otherwise_with go l [] = stop []
 otherwise_with go l (t ∷ ts) = otherwise_of go l t ts t.kind
 
 -- ---- Types.
 
-abbrev pub pred_type_with : Go → Nesting → Word → Tokens → Read TypeExpr
-pred_type_with go l w ts = enter go.limit l ts >>= λ m. deeper go m ts >>= λ p. expect kind.Close p.2 >>= λ us. Ok (type_expr.PredType p.0 w.pos, l, us)
+abbrev pub pred_type_with : Readers → Nesting → Word → Tokens → Read TypeExpr
+pred_type_with go l w ts = enter go.limit l ts >>= λ m. nested_expr go m ts >>= λ p. expect kind.Close p.2 >>= λ us. Ok (type_expr.PredType p.0 w.pos, l, us)
 
--- an identifier, and a type behind a colon, up to the bar
-abbrev pub base_with : Go → Nesting → Tokens → Answer (Word × TypeExpr × Nesting × Tokens)
+-- an identifier, and a type after a colon, up to the bar
+abbrev pub base_with : Readers → Nesting → Tokens → Answer (Word × TypeExpr × Nesting × Tokens)
 base_with go l ts = id ts >>= λ p. expect kind.Colon p.1 >>= λ us. go.type l us >>= λ q. expect kind.Bar q.2 >>= λ vs. Ok (p.0, q.0, q.1, vs)
 
-abbrev pub sub_type_with : Go → Nesting → Word → Tokens → Read TypeExpr
-sub_type_with go l w ts = enter go.limit l ts >>= λ m. base_with go m ts >>= λ p. deeper go p.2 p.3 >>= λ q. expect kind.CloseBrace q.2 >>= λ vs. Ok (type_expr.SubType p.0 p.1 q.0 w.pos, l, vs)
+abbrev pub sub_type_with : Readers → Nesting → Word → Tokens → Read TypeExpr
+sub_type_with go l w ts = enter go.limit l ts >>= λ m. base_with go m ts >>= λ p. nested_expr go p.2 p.3 >>= λ q. expect kind.CloseBrace q.2 >>= λ vs. Ok (type_expr.SubType p.0 p.1 q.0 w.pos, l, vs)
 
--- behind the components of a domain and the arrow; the nesting is that outside the bracket, and that here
-abbrev pub fun_type_with : Go → Nesting → Word → List Binding → Nesting → Tokens → Read TypeExpr
+-- after the components of a domain and the arrow; the nesting is that outside the bracket, and that here
+abbrev pub fun_type_with : Readers → Nesting → Word → List Binding → Nesting → Tokens → Read TypeExpr
 fun_type_with go l w bs m ts = go.type m ts >>= λ p. expect kind.CloseBracket p.2 >>= λ us. Ok (type_expr.FunType bs p.0 w.pos, l, us)
 
--- behind the components of a tuple
+-- after the components of a tuple
 abbrev pub tuple_type : Nesting → Word → List Binding → Tokens → Read TypeExpr
 tuple_type l w (b ∷ c ∷ bs) ts = expect kind.CloseBracket ts >>= λ us. Ok (type_expr.TupleType (b ∷ c ∷ bs) w.pos, l, us)
 tuple_type l w _ ts = stop ts
 
-abbrev pub bracket_type_with : Go → Nesting → Word → Tokens → Read TypeExpr
+abbrev pub bracket_type_with : Readers → Nesting → Word → Tokens → Read TypeExpr
 bracket_type_with go l w ts = enter go.limit l ts >>= λ m. list_with go Component m ts >>= λ p. either (after kind.Arrow p.2) (λ us. fun_type_with go l w p.0 p.1 us) (tuple_type l w p.0 p.2)
 
-abbrev pub name_type_with : Go → Nesting → Word → Tokens → Read TypeExpr
+abbrev pub name_type_with : Readers → Nesting → Word → Tokens → Read TypeExpr
 name_type_with go l w ts = name_after go w l ts >>= λ p. Ok (type_expr.NameType p.0, l, p.1)
 
-abbrev pub type_of : Go → Nesting → Terminal → Tokens → TerminalKind → Read TypeExpr
+abbrev pub type_of : Readers → Nesting → Terminal → Tokens → TerminalKind → Read TypeExpr
 type_of go l t ts kind.Id = name_type_with go l t.word ts
 type_of go l t ts kind.Proof = name_type_with go l t.word ts
 type_of go l t ts kind.Open = pred_type_with go l t.word ts
@@ -441,33 +441,33 @@ type_of go l t ts kind.OpenBrace = sub_type_with go l t.word ts
 type_of go l t ts kind.OpenBracket = bracket_type_with go l t.word ts
 type_of go l t ts _ = stop (t ∷ ts)
 
-abbrev pub type_with : Go → Nesting → Tokens → Read TypeExpr
+abbrev pub type_with : Readers → Nesting → Tokens → Read TypeExpr
 type_with go l [] = stop []
 type_with go l (t ∷ ts) = type_of go l t ts t.kind
 
 -- ---- The whole.
 
-abbrev pub expr_with : Go → Start → Nesting → Tokens → Read Expr
+abbrev pub expr_with : Readers → Start → Nesting → Tokens → Read Expr
 expr_with go (start.Chain c) l ts = chain_with go c l ts
 expr_with go start.Operand l ts = operand_with go l ts
 expr_with go start.Otherwise l ts = otherwise_with go l ts
 
-abbrev pub nothing : Limit → Go
-nothing limit = record { limit = limit; expr = λ s l ts. stop ts; type = λ l ts. stop ts }
+abbrev pub no_readers : Limit → Readers
+no_readers limit = record { limit = limit; expr = λ s l ts. stop ts; type = λ l ts. stop ts }
 
-abbrev pub step : Go → Go
-step go = record { limit = go.limit; expr = expr_with go; type = type_with go }
+abbrev pub next_readers : Readers → Readers
+next_readers go = record { limit = go.limit; expr = expr_with go; type = type_with go }
 
 -- with so many forms inside one another at most
-unfoldable pub reader : Limit → ℕ → Go
-reader limit zero = nothing limit
-reader limit (suc a) = step (reader limit a)
+unfoldable pub reader : Limit → ℕ → Readers
+reader limit zero = no_readers limit
+reader limit (suc a) = next_readers (reader limit a)
 
--- a tree behind which no token is left
-abbrev pub ended : {A : Type 0} → A → Tokens → Answer A
-ended x [] = Ok x
-ended x (t ∷ ts) = stop (t ∷ ts)
+-- a tree after which no token is left
+abbrev pub at_end : {A : Type 0} → A → Tokens → Answer A
+at_end x [] = Ok x
+at_end x (t ∷ ts) = stop (t ∷ ts)
 
 -- all the tokens as one expression
 abbrev pub expression : Limit → Tokens → Answer Expr
-expression limit ts = deeper (reader limit (length ts + 1)) outermost ts >>= λ p. ended p.0 p.2
+expression limit ts = nested_expr (reader limit (length ts + 1)) outermost ts >>= λ p. at_end p.0 p.2

@@ -4,6 +4,7 @@ pub mod Descent
 pub mod Nests
 pub mod Units
 pub mod UnitDescent
+pub mod FirstTokens
 pub mod Faults
 pub mod Text
 pub mod Reading

@@ -1,5 +1,5 @@
 -- Which unit a text is, and which expression a span of it.
-use Rattle.std.specs.Prelude.{◌≡◌, ◌≤◌, ◌<◌, ◌^◌, ℕ, ◌+◌, ◌-◌, ◌==◌, Bool, true, false, if◌then◌else◌, List, [], ◌∷◌, length, map, take, drop, codes, Option, Some, None, Result, Ok, Err, All, ⊤}
+use Rattle.std.specs.Prelude.{◌≡◌, ◌≤◌, ◌<◌, ◌^◌, ℕ, ◌+◌, ◌==◌, Bool, true, false, if◌then◌else◌, List, [], ◌∷◌, length, map, codes, Option, Some, None, Result, Ok, Err, All, ⊤}
 use Rattle.std.specs.Str.{bytes_eq}
 use Rattle.pvs_base.specs.declared.code.Code.TheVariants as code
 use Rattle.pvs_base.specs.declared.code.Fault.{Fault}
@@ -13,7 +13,7 @@ use Rattle.pvs_lexer.specs.declared.words.Keyword.{Keyword}
 use Rattle.pvs_lexer.specs.declared.words.Keyword.TheVariants as k
 use Rattle.pvs_lexer.specs.Keywords.{keyword_of}
 use Rattle.pvs_lexer.specs.Spans.{bytes_of}
-use Rattle.pvs_lexer.specs.Tokens.{Lexed, tokens_of}
+use Rattle.pvs_lexer.specs.Tokens.{TokenStream, tokens_of}
 use Rattle.pvs_syntax.specs.declared.expression.Expr.{Expr}
 use Rattle.pvs_syntax.specs.declared.unit.Item.{Item}
 use Rattle.pvs_syntax.specs.declared.unit.Item.TheVariants as item
@@ -24,8 +24,8 @@ use Rattle.pvs_parser.specs.declared.nesting.Nesting.{Nesting}
 use Rattle.pvs_parser.specs.declared.terminal.Terminal.{Terminal}
 use Rattle.pvs_parser.specs.declared.terminal.TerminalKind.{TerminalKind}
 use Rattle.pvs_parser.specs.declared.terminal.TerminalKind.TheVariants as kind
-use Rattle.pvs_parser.specs.Faults.{BehindEnd, IsFirst}
-use Rattle.pvs_parser.specs.Language.{Tokens, Limit, bounded, ReadsExpr, Ending, Derives, whole, outermost}
+use Rattle.pvs_parser.specs.Faults.{AwaitsName, IsFirstFaultIn}
+use Rattle.pvs_parser.specs.Language.{Tokens, Limit, language_limit, ReadsExpr, Ending, Derives, whole, outermost}
 use Rattle.pvs_parser.specs.Units.{DerivesUnit}
 
 -- ---- What a token is for the grammar.
@@ -136,12 +136,12 @@ terminal quoted offset span t = record {
   word = record { start = offset + t.start; end = offset + t.end; pos = t.pos };
 }
 
--- the terminals of a span that begins at an offset and a place, and the lexical fault behind them, if there is one
+-- the terminals of a span that begins at an offset and a place, and the lexical fault after them, if there is one
 pub record Terminals : Type 0 where
   pub tokens : Tokens
   pub fault : Option Fault
 
-abbrev pub terminals_of : Bool → ℕ → List ℕ → Lexed → Terminals
+abbrev pub terminals_of : Bool → ℕ → List ℕ → TokenStream → Terminals
 terminals_of quoted offset span lexed = record { tokens = map (terminal quoted offset span) lexed.tokens; fault = lexed.fault }
 
 abbrev pub terminals : Bool → ℕ → Pos → List ℕ → Terminals
@@ -159,7 +159,7 @@ terminals_of_text text = terminals false 0 first_place text
 pub record Reads (text : List ℕ) (u : tree.Unit) : Type 0 where
   pub small : length text ≤ 2 ^ 20
   pub faultless : (terminals_of_text text).fault ≡ None
-  pub derives : DerivesUnit bounded text (terminals_of_text text).tokens u
+  pub derives : DerivesUnit language_limit text (terminals_of_text text).tokens u
 
 -- tokens that are a unit of a text, within a limit
 abbrev pub IsUnit : List ℕ → Limit → Tokens → Type 0
@@ -168,12 +168,16 @@ IsUnit text limit ts = (u : tree.Unit) × DerivesUnit limit text ts u
 -- the first fault of a text: that it is too long, or that of its tokens
 pub data IsFirstFault (text : List ℕ) : Fault → Type 0 where
   too_long : 2 ^ 20 < length text → IsFirstFault text (record { pos = first_place; code = code.TextTooLong })
-  first : length text ≤ 2 ^ 20 → (f : Fault) → IsFirst (IsUnit text) BehindEnd (place_after first_place text) (terminals_of_text text).fault (terminals_of_text text).tokens f → IsFirstFault text f
+  first : length text ≤ 2 ^ 20 → (f : Fault) → IsFirstFaultIn (IsUnit text) AwaitsName (place_after first_place text) (terminals_of_text text).fault (terminals_of_text text).tokens f → IsFirstFault text f
 
 -- the unit of a text, or its first fault
 abbrev pub IsAnswer : List ℕ → Result tree.Unit Fault → Type 0
 IsAnswer text (Ok u) = Reads text u
 IsAnswer text (Err f) = IsFirstFault text f
+
+-- a text has an answer
+abbrev pub HasAnswer : List ℕ → Type 0
+HasAnswer text = (a : Result tree.Unit Fault) × IsAnswer text a
 
 -- what is answered of a text, unless memory runs out
 abbrev pub Answers : List ℕ → Result tree.Unit ParseFault → Type 0
@@ -216,18 +220,22 @@ abbrev pub IsExpr : Limit → Tokens → Type 0
 IsExpr limit ts = (x : Expr) × (e : Ending) × (m : Nesting) × Derives limit (whole e) outermost ts x m
 
 -- the name of a theory stands nowhere in an expression
-abbrev pub Nowhere : Tokens → Type 0
-Nowhere before = ⊥
+abbrev pub NeverAwaitsName : Tokens → Type 0
+NeverAwaitsName before = ⊥
 
 -- the first fault of a span
 abbrev pub IsFirstFaultOfSpan : List ℕ → ℕ → ℕ → Pos → Fault → Type 0
 IsFirstFaultOfSpan text start end pos f =
-    IsFirst IsExpr Nowhere (place_after pos (span_of text start end)) (terminals_of_span text start end pos).fault (terminals_of_span text start end pos).tokens f
+    IsFirstFaultIn IsExpr NeverAwaitsName (place_after pos (span_of text start end)) (terminals_of_span text start end pos).fault (terminals_of_span text start end pos).tokens f
 
 -- the expression of a span, or its first fault
 abbrev pub IsSpanAnswer : List ℕ → ℕ → ℕ → Pos → Result Expr Fault → Type 0
 IsSpanAnswer text start end pos (Ok x) = ReadsSpan text start end pos x
 IsSpanAnswer text start end pos (Err f) = IsFirstFaultOfSpan text start end pos f
+
+-- a span has an answer
+abbrev pub HasSpanAnswer : List ℕ → ℕ → ℕ → Pos → Type 0
+HasSpanAnswer text start end pos = (a : Result Expr Fault) × IsSpanAnswer text start end pos a
 
 -- what is answered of a span, unless memory runs out
 abbrev pub AnswersSpan : List ℕ → ℕ → ℕ → Pos → Result Expr ParseFault → Type 0

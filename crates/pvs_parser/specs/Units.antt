@@ -1,7 +1,7 @@
 -- The grammar of units, theories, declarations and proofs: a case for each of its lines.
 --
 -- Each declaration, each formal list and each script begins at level 0. In a script only parentheses count.
-use Rattle.std.specs.Prelude.{◌≡◌, ℕ, suc, ◌-◌, Bool, true, false, List, [], ◌∷◌, ◌++◌, length, map, take, drop, Option, Some, None}
+use Rattle.std.specs.Prelude.{◌≡◌, ℕ, suc, Bool, true, false, List, [], ◌∷◌, ◌++◌, length, map, Option, Some, None}
 use Rattle.pvs_parser.specs.declared.nesting.Nesting.{Nesting}
 use Rattle.pvs_parser.specs.declared.terminal.Terminal.{Terminal}
 use Rattle.pvs_parser.specs.declared.terminal.TerminalKind.{TerminalKind}
@@ -25,7 +25,7 @@ use Rattle.pvs_syntax.specs.declared.unit.Theory.{Theory}
 use Rattle.pvs_syntax.specs.declared.unit.Unit as tree
 use Rattle.pvs_parser.specs.Terminals.{Is, IsId}
 use Rattle.pvs_parser.specs.Language as l
-use Rattle.pvs_parser.specs.Language.{Limit, IsBelow, HasRoom, Tokens, Derives, Ending, outermost, inside, whole}
+use Rattle.pvs_parser.specs.Language.{Limit, IsBelow, HasRoom, Tokens, Derives, Ending, outermost, in_frame, whole}
 
 -- ---- Parts of trees.
 
@@ -68,7 +68,7 @@ pub data DerivesTypeWord : Tokens → Bool → Type 0 where
 pub data DerivesFormal (limit : Limit) : Tokens → List Formal → Type 0 where
   types : (ts us : Tokens) (ws : List Word) (nonempty : Bool) (t : Terminal) → DerivesIds limit ts ws → Is kind.Colon t → DerivesTypeWord us nonempty
       → DerivesFormal limit (ts ++ t ∷ us) (map (type_formal nonempty) ws)
-  constants : (ts us : Tokens) (ws : List Word) (a : TypeExpr) (m : Nesting) (t : Terminal) → DerivesIds limit ts ws → Is kind.Colon t → Derives limit l.type_ (inside outermost) us a m
+  constants : (ts us : Tokens) (ws : List Word) (a : TypeExpr) (m : Nesting) (t : Terminal) → DerivesIds limit ts ws → Is kind.Colon t → Derives limit l.type_ (in_frame outermost) us a m
       → DerivesFormal limit (ts ++ t ∷ us) (map (const_formal a) ws)
 
 -- formal { "," formal }: so many of them, and no more than the limit
@@ -101,7 +101,7 @@ pub data DerivesVariables (limit : Limit) : Tokens → List Decl → Type 0 wher
 -- [ "(" bindings ")" ]
 pub data DerivesParameters (limit : Limit) : Tokens → List Binding → Type 0 where
   none : DerivesParameters limit [] []
-  parameters : (ts : Tokens) (bs : List Binding) (k : Nesting) (t u : Terminal) → Is kind.Open t → HasRoom limit outermost → Derives limit (l.list l.Variable) (inside outermost) ts bs k → Is kind.Close u
+  parameters : (ts : Tokens) (bs : List Binding) (k : Nesting) (t u : Terminal) → Is kind.Open t → HasRoom limit outermost → Derives limit (l.list l.Variable) (in_frame outermost) ts bs k → Is kind.Close u
       → DerivesParameters limit (t ∷ (ts ++ u ∷ [])) bs
 
 -- [ "=" expr ]

@@ -3,7 +3,7 @@
 ghost use Rattle.std.specs.Prelude.{◌≡◌};
 ghost use Rattle.pvs_parser.specs.Descent.{Gives};
 ghost use Rattle.pvs_parser.specs.Descent as spec;
-ghost use Rattle.pvs_parser.specs.Nests.{Nests, below};
+ghost use Rattle.pvs_parser.specs.Nests.{Nests, bounded_reader};
 
 use crate::descent::{Descent, Read};
 use crate::nesting::Nesting;
@@ -18,17 +18,17 @@ where
     E: Fn(Global, usize, usize, Start, Nesting, &[Terminal]) -> Read<'_, Expr>,
     T: Fn(Global, usize, usize, Nesting, &[Terminal]) -> Read<'_, TypeExpr>,
 {
-    /// What stands behind ELSE.
+    /// What stands after ELSE.
     fn else_branch<'a>(&self, nesting: Nesting, tokens: &'a [Terminal]) -> Read<'a, Expr>
         requires { Nests self.now.room (E.pre self.now.expr) (E.post self.now.expr) (T.pre self.now.ty) (T.post self.now.ty) }
-        ensures { Gives (λ p. (p.0, p.1, p.2.now)) result (spec.else_with (below self.now.room) nesting tokens.now) }
+        ensures { Gives (λ p. (p.0, p.1, p.2.now)) result (spec.else_with (bounded_reader self.now.room) nesting tokens.now) }
     {
         let (expr, nesting, rest) = self.expr(nesting.cleared(), tokens)?;
         let rest = expect(TerminalKind::EndIf, rest)?;
         Ok((expr, nesting, rest))
     }
 
-    /// What stands behind ELSIF.
+    /// What stands after ELSIF.
     fn elsif_branch<'a>(
         &self,
         word: Word,
@@ -36,7 +36,7 @@ where
         tokens: &'a [Terminal],
     ) -> Read<'a, Expr>
         requires { Nests self.now.room (E.pre self.now.expr) (E.post self.now.expr) (T.pre self.now.ty) (T.post self.now.ty) }
-        ensures { Gives (λ p. (p.0, p.1, p.2.now)) result (spec.elsif_with (below self.now.room) word nesting tokens.now) }
+        ensures { Gives (λ p. (p.0, p.1, p.2.now)) result (spec.elsif_with (bounded_reader self.now.room) word nesting tokens.now) }
     {
         let nesting = nesting.cleared().hold(tokens)?;
         self.cond(word, nesting, tokens)
@@ -44,7 +44,7 @@ where
 
     pub fn otherwise<'a>(&self, nesting: Nesting, tokens: &'a [Terminal]) -> Read<'a, Expr>
         requires { Nests self.now.room (E.pre self.now.expr) (E.post self.now.expr) (T.pre self.now.ty) (T.post self.now.ty) }
-        ensures { Gives (λ p. (p.0, p.1, p.2.now)) result (spec.otherwise_with (below self.now.room) nesting tokens.now) }
+        ensures { Gives (λ p. (p.0, p.1, p.2.now)) result (spec.otherwise_with (bounded_reader self.now.room) nesting tokens.now) }
     {
         let [token, rest @ ..] = tokens else {
             return Err(stop(tokens));

@@ -2,8 +2,8 @@
 
 ghost use Rattle.std.specs.Prelude.{◌≡◌, ◌<◌, ◌∷◌, [], length, map, IfOk};
 ghost use Rattle.pvs_parser.specs.Descent.{Gives};
-ghost use Rattle.pvs_parser.specs.Language.{bounded, outermost};
-ghost use Rattle.pvs_parser.specs.Steps.{each, declares};
+ghost use Rattle.pvs_parser.specs.Language.{language_limit, outermost};
+ghost use Rattle.pvs_parser.specs.Steps.{each, declaration_in};
 ghost use Rattle.pvs_parser.specs.Units.{type_decl, const_decl, formula_of};
 ghost use Rattle.pvs_parser.specs.UnitDescent as spec;
 
@@ -22,7 +22,7 @@ use std::alloc::{AllocError, Global};
 
 /// A part of a theory that has declarations.
 #[derive(Clone, Copy, Debug, PartialEq, Eq)]
-pub enum Part {
+pub enum TheoryPart {
     Assuming,
     Body,
 }
@@ -40,7 +40,7 @@ fn one(alloc: Global, decl: Decl) -> Result<Items<Decl>, AllocError>
 
 /// An expression, and the tokens after it.
 fn expr(alloc: Global, tokens: &[Terminal]) -> Result<(Expr, &[Terminal]), Failure>
-    ensures { Gives (λ p. (p.0, p.1.now)) result (spec.expr bounded tokens.now) }
+    ensures { Gives (λ p. (p.0, p.1.now)) result (spec.expr language_limit tokens.now) }
 {
     let (expr, _, rest) = descent::expr(
         alloc,
@@ -56,7 +56,7 @@ fn expr(alloc: Global, tokens: &[Terminal]) -> Result<(Expr, &[Terminal]), Failu
 /// Variables of one type, which is read for each name, so that each has a tree of its own.
 fn variables<'a>(alloc: Global, names: &[Word], tokens: &'a [Terminal]) -> Decls<'a>
     requires { 0 < length names.now }
-    ensures { Gives (λ p. (p.0, p.1.now)) result (spec.variables bounded names.now tokens.now) }
+    ensures { Gives (λ p. (p.0, p.1.now)) result (spec.variables language_limit names.now tokens.now) }
 {
     let mut found = Items::new(alloc);
     let mut rest = tokens;
@@ -71,7 +71,7 @@ fn variables<'a>(alloc: Global, names: &[Word], tokens: &'a [Terminal]) -> Decls
 /// Constants of one type without definitions. The type is read for each name.
 fn plain_constants<'a>(alloc: Global, names: &[Word], tokens: &'a [Terminal]) -> Decls<'a>
     requires { 0 < length names.now }
-    ensures { Gives (λ p. (p.0, p.1.now)) result (each const_decl names.now (spec.type bounded outermost tokens.now)) }
+    ensures { Gives (λ p. (p.0, p.1.now)) result (each const_decl names.now (spec.type language_limit outermost tokens.now)) }
 {
     let mut found = Items::new(alloc);
     let mut rest = tokens;
@@ -90,7 +90,7 @@ fn plain_constants<'a>(alloc: Global, names: &[Word], tokens: &'a [Terminal]) ->
 
 /// The definition of a constant, if it has one.
 fn body(alloc: Global, tokens: &[Terminal]) -> Result<(Option<Expr>, &[Terminal]), Failure>
-    ensures { Gives (λ p. (p.0, p.1.now)) result (spec.body bounded tokens.now) }
+    ensures { Gives (λ p. (p.0, p.1.now)) result (spec.body language_limit tokens.now) }
 {
     let Some(rest) = after(TerminalKind::Equal, tokens) else {
         return Ok((None, tokens));
@@ -101,7 +101,7 @@ fn body(alloc: Global, tokens: &[Terminal]) -> Result<(Option<Expr>, &[Terminal]
 
 /// The type of a constant with these parameters, and its definition.
 fn constant(alloc: Global, name: Word, params: Items<Binding>, tokens: &[Terminal]) -> Decls<'_>
-    ensures { Gives (λ p. (p.0, p.1.now)) result (spec.constant bounded name params tokens.now) }
+    ensures { Gives (λ p. (p.0, p.1.now)) result (spec.constant language_limit name params tokens.now) }
 {
     let (ty, rest) = type_of(alloc, Nesting::OUTERMOST, tokens)?;
     let (body, rest) = body(alloc, rest)?;
@@ -114,9 +114,9 @@ fn constant(alloc: Global, name: Word, params: Items<Binding>, tokens: &[Termina
     Ok((one(alloc, decl)?, rest))
 }
 
-/// A constant with parameters, behind its name and the parenthesis.
+/// A constant with parameters, after its name and the parenthesis.
 fn function(alloc: Global, name: Word, tokens: &[Terminal]) -> Decls<'_>
-    ensures { Gives (λ p. (p.0, p.1.now)) result (spec.function bounded name tokens.now) }
+    ensures { Gives (λ p. (p.0, p.1.now)) result (spec.function language_limit name tokens.now) }
 {
     let (params, rest) = descent::bindings(alloc, tokens.len() + 1, Nesting::OUTERMOST, tokens)?;
     let rest = expect(TerminalKind::Colon, rest)?;
@@ -125,7 +125,7 @@ fn function(alloc: Global, name: Word, tokens: &[Terminal]) -> Decls<'_>
 
 fn constants<'a>(alloc: Global, names: &[Word], tokens: &'a [Terminal]) -> Decls<'a>
     requires { 0 < length names.now }
-    ensures { Gives (λ p. (p.0, p.1.now)) result (spec.constants bounded names.now tokens.now) }
+    ensures { Gives (λ p. (p.0, p.1.now)) result (spec.constants language_limit names.now tokens.now) }
 {
     match names {
         [name] => constant(alloc, *name, Items::new(alloc), tokens),
@@ -133,9 +133,9 @@ fn constants<'a>(alloc: Global, names: &[Word], tokens: &'a [Terminal]) -> Decls
     }
 }
 
-/// A type with a definition, behind its `=`.
+/// A type with a definition, after its `=`.
 fn type_definition(alloc: Global, name: Word, tokens: &[Terminal]) -> Decls<'_>
-    ensures { Gives (λ p. (p.0, p.1.now)) result (spec.type_definition bounded name tokens.now) }
+    ensures { Gives (λ p. (p.0, p.1.now)) result (spec.type_definition language_limit name tokens.now) }
 {
     let (body, rest) = type_of(alloc, Nesting::OUTERMOST, tokens)?;
     let decl = Decl::TypeDef { name, body };
@@ -156,9 +156,9 @@ fn type_decls(alloc: Global, names: &[Word], nonempty: bool) -> Result<Items<Dec
     Ok(found)
 }
 
-/// What stands behind names, a colon and TYPE. A single name may have a definition.
+/// What stands after names, a colon and TYPE. A single name may have a definition.
 fn types<'a>(alloc: Global, names: &[Word], tokens: &'a [Terminal]) -> Decls<'a>
-    ensures { Gives (λ p. (p.0, p.1.now)) result (spec.types bounded names.now tokens.now) }
+    ensures { Gives (λ p. (p.0, p.1.now)) result (spec.types language_limit names.now tokens.now) }
 {
     if let [name] = names {
         if let Some(rest) = after(TerminalKind::Equal, tokens) {
@@ -189,7 +189,7 @@ fn formula<'a>(
     tokens: &'a [Terminal],
     rest: &'a [Terminal],
 ) -> Decls<'a>
-    ensures { Gives (λ p. (p.0, p.1.now)) result (spec.formulas bounded names.now word tokens.now rest.now) }
+    ensures { Gives (λ p. (p.0, p.1.now)) result (spec.formulas language_limit names.now word tokens.now rest.now) }
 {
     let [name] = names else {
         return Err(stop(tokens));
@@ -206,7 +206,7 @@ fn formula<'a>(
 /// What the names before a colon are.
 fn declared<'a>(alloc: Global, names: &[Word], tokens: &'a [Terminal]) -> Decls<'a>
     requires { 0 < length names.now }
-    ensures { Gives (λ p. (p.0, p.1.now)) result (spec.declared bounded names.now tokens.now) }
+    ensures { Gives (λ p. (p.0, p.1.now)) result (spec.decls_after_colon language_limit names.now tokens.now) }
 {
     let [token, rest @ ..] = tokens else {
         return Err(stop(tokens));
@@ -224,7 +224,7 @@ fn declared<'a>(alloc: Global, names: &[Word], tokens: &'a [Terminal]) -> Decls<
 
 /// Names, a colon, and what they are.
 fn named(alloc: Global, tokens: &[Terminal]) -> Decls<'_>
-    ensures { Gives (λ p. (p.0, p.1.now)) result (spec.named bounded tokens.now) }
+    ensures { Gives (λ p. (p.0, p.1.now)) result (spec.declaration_of_names language_limit tokens.now) }
 {
     let (names, rest) = ids(alloc, tokens)?;
     let rest = expect(TerminalKind::Colon, rest)?;
@@ -233,7 +233,7 @@ fn named(alloc: Global, tokens: &[Terminal]) -> Decls<'_>
 
 /// A declaration, as an entry for each name or instance.
 fn declaration(alloc: Global, tokens: &[Terminal]) -> Decls<'_>
-    ensures { Gives (λ p. (p.0, p.1.now)) result (spec.declaration bounded tokens.now) }
+    ensures { Gives (λ p. (p.0, p.1.now)) result (spec.declaration language_limit tokens.now) }
 {
     if let Some(rest) = after(TerminalKind::Importing, tokens) {
         return importing(alloc, rest);
@@ -248,7 +248,7 @@ fn declaration(alloc: Global, tokens: &[Terminal]) -> Decls<'_>
 /// What the names before a colon are in an assuming part.
 fn assumed_after<'a>(alloc: Global, names: &[Word], tokens: &'a [Terminal]) -> Decls<'a>
     requires { 0 < length names.now }
-    ensures { Gives (λ p. (p.0, p.1.now)) result (spec.assumed_after bounded names.now tokens.now) }
+    ensures { Gives (λ p. (p.0, p.1.now)) result (spec.assuming_decls_after_colon language_limit names.now tokens.now) }
 {
     let [token, rest @ ..] = tokens else {
         return Err(stop(tokens));
@@ -262,7 +262,7 @@ fn assumed_after<'a>(alloc: Global, names: &[Word], tokens: &'a [Terminal]) -> D
 
 /// A declaration of an assuming part.
 fn assumed(alloc: Global, tokens: &[Terminal]) -> Decls<'_>
-    ensures { Gives (λ p. (p.0, p.1.now)) result (spec.assumed bounded tokens.now) }
+    ensures { Gives (λ p. (p.0, p.1.now)) result (spec.assuming_decl language_limit tokens.now) }
 {
     if let Some(rest) = after(TerminalKind::Importing, tokens) {
         return importing(alloc, rest);
@@ -273,12 +273,12 @@ fn assumed(alloc: Global, tokens: &[Terminal]) -> Decls<'_>
 }
 
 /// A declaration of a part of a theory.
-fn entry(alloc: Global, part: Part, tokens: &[Terminal]) -> Decls<'_>
-    ensures { Gives (λ p. (p.0, p.1.now)) result (declares bounded part tokens.now) }
+fn entry(alloc: Global, part: TheoryPart, tokens: &[Terminal]) -> Decls<'_>
+    ensures { Gives (λ p. (p.0, p.1.now)) result (declaration_in language_limit part tokens.now) }
 {
     match part {
-        Part::Assuming => assumed(alloc, tokens),
-        Part::Body => declaration(alloc, tokens),
+        TheoryPart::Assuming => assumed(alloc, tokens),
+        TheoryPart::Body => declaration(alloc, tokens),
     }
 }
 
@@ -292,7 +292,7 @@ fn comes_decl(tokens: &[Terminal]) -> bool
     }
 }
 
-/// The tokens behind a semicolon, where one comes next.
+/// The tokens after a semicolon, where one comes next.
 fn past_semicolon(tokens: &[Terminal]) -> &[Terminal]
     ensures { result.now ≡ spec.past_semicolon tokens.now }
 {
@@ -304,8 +304,8 @@ fn past_semicolon(tokens: &[Terminal]) -> &[Terminal]
 
 /// Declarations of a part of a theory, as long as one comes next, and the tokens after them.
 #[tactic(auto, using(crate::proofs::UnitTurns::many_end, crate::proofs::UnitTurns::many_err, crate::proofs::UnitTurns::many_next, crate::proofs::UnitTurns::many_full))]
-pub fn declarations(alloc: Global, part: Part, tokens: &[Terminal]) -> Decls<'_>
-    ensures { Gives (λ p. (p.0, p.1.now)) result (spec.many_from (declares bounded part) (length tokens.now) [] tokens.now) }
+pub fn declarations(alloc: Global, part: TheoryPart, tokens: &[Terminal]) -> Decls<'_>
+    ensures { Gives (λ p. (p.0, p.1.now)) result (spec.many_from (declaration_in language_limit part) (length tokens.now) [] tokens.now) }
 {
     let mut found = Items::new(alloc);
     let mut rest = tokens;

@@ -4,8 +4,8 @@
 ghost use Rattle.std.specs.Prelude.{◌≡◌};
 ghost use Rattle.pvs_parser.specs.Descent.{Gives, reader};
 ghost use Rattle.pvs_parser.specs.Descent as spec;
-ghost use Rattle.pvs_parser.specs.Language.{bounded, Parameter, Variable};
-ghost use Rattle.pvs_parser.specs.Nests.{Nests, below};
+ghost use Rattle.pvs_parser.specs.Language.{language_limit, Parameter, Variable};
+ghost use Rattle.pvs_parser.specs.Nests.{Nests, bounded_reader};
 
 use crate::failure::Failure;
 use crate::nesting::Nesting;
@@ -21,7 +21,7 @@ use std::alloc::Global;
 /// within the 8 MiB that a program commonly has; a text past it is one for which memory ran out.
 pub const CALLS: usize = 700;
 
-/// A tree, with the nesting behind it and the tokens after it.
+/// A tree, with the nesting after it and the tokens after it.
 pub type Read<'a, A> = Result<(A, Nesting, &'a [Terminal]), Failure>;
 
 /// How the expressions and the types inside a form are read.
@@ -49,7 +49,7 @@ where
         tokens: &'a [Terminal],
     ) -> Read<'a, Expr>
         requires { Nests self.now.room (E.pre self.now.expr) (E.post self.now.expr) (T.pre self.now.ty) (T.post self.now.ty) }
-        ensures { Gives (λ p. (p.0, p.1, p.2.now)) result ((below self.now.room).expr start nesting tokens.now) }
+        ensures { Gives (λ p. (p.0, p.1, p.2.now)) result ((bounded_reader self.now.room).expr start nesting tokens.now) }
     {
         (self.expr)(self.alloc, self.calls, self.room, start, nesting, tokens)
     }
@@ -57,14 +57,14 @@ where
     /// A whole expression.
     pub fn expr<'a>(&self, nesting: Nesting, tokens: &'a [Terminal]) -> Read<'a, Expr>
         requires { Nests self.now.room (E.pre self.now.expr) (E.post self.now.expr) (T.pre self.now.ty) (T.post self.now.ty) }
-        ensures { Gives (λ p. (p.0, p.1, p.2.now)) result (spec.deeper (below self.now.room) nesting tokens.now) }
+        ensures { Gives (λ p. (p.0, p.1, p.2.now)) result (spec.nested_expr (bounded_reader self.now.room) nesting tokens.now) }
     {
         self.read_from(Start::Chain(Connective::Iff), nesting, tokens)
     }
 
     pub fn type_expr<'a>(&self, nesting: Nesting, tokens: &'a [Terminal]) -> Read<'a, TypeExpr>
         requires { Nests self.now.room (E.pre self.now.expr) (E.post self.now.expr) (T.pre self.now.ty) (T.post self.now.ty) }
-        ensures { Gives (λ p. (p.0, p.1, p.2.now)) result ((below self.now.room).type nesting tokens.now) }
+        ensures { Gives (λ p. (p.0, p.1, p.2.now)) result ((bounded_reader self.now.room).type nesting tokens.now) }
     {
         (self.ty)(self.alloc, self.calls, self.room, nesting, tokens)
     }
@@ -77,7 +77,7 @@ where
         tokens: &'a [Terminal],
     ) -> Read<'a, Expr>
         requires { Nests self.now.room (E.pre self.now.expr) (E.post self.now.expr) (T.pre self.now.ty) (T.post self.now.ty) }
-        ensures { Gives (λ p. (p.0, p.1, p.2.now)) result (spec.expr_with (below self.now.room) start nesting tokens.now) }
+        ensures { Gives (λ p. (p.0, p.1, p.2.now)) result (spec.expr_with (bounded_reader self.now.room) start nesting tokens.now) }
     {
         match start {
             Start::Chain(connective) => self.chain(connective, nesting, tokens),
@@ -97,7 +97,7 @@ pub fn expr(
     nesting: Nesting,
     tokens: &[Terminal],
 ) -> Read<'_, Expr>
-    ensures { Gives (λ p. (p.0, p.1, p.2.now)) result ((reader bounded room).expr start nesting tokens.now) }
+    ensures { Gives (λ p. (p.0, p.1, p.2.now)) result ((reader language_limit room).expr start nesting tokens.now) }
 {
     if calls == 0 {
         return Err(Failure::Memory);
@@ -124,7 +124,7 @@ pub fn type_expr(
     nesting: Nesting,
     tokens: &[Terminal],
 ) -> Read<'_, TypeExpr>
-    ensures { Gives (λ p. (p.0, p.1, p.2.now)) result ((reader bounded room).type nesting tokens.now) }
+    ensures { Gives (λ p. (p.0, p.1, p.2.now)) result ((reader language_limit room).type nesting tokens.now) }
 {
     if calls == 0 {
         return Err(Failure::Memory);
@@ -149,7 +149,7 @@ pub fn bindings(
     nesting: Nesting,
     tokens: &[Terminal],
 ) -> Result<(Items<Binding>, &[Terminal]), Failure>
-    ensures { Gives (λ p. (p.0, p.1.now)) result (spec.framed_with (reader bounded room) Variable TerminalKind.Close nesting tokens.now) }
+    ensures { Gives (λ p. (p.0, p.1.now)) result (spec.framed_with (reader language_limit room) Variable TerminalKind.Close nesting tokens.now) }
 {
     Descent {
         alloc,
@@ -168,7 +168,7 @@ pub fn actuals(
     nesting: Nesting,
     tokens: &[Terminal],
 ) -> Result<(Items<Actual>, &[Terminal]), Failure>
-    ensures { Gives (λ p. (p.0, p.1.now)) result (spec.framed_with (reader bounded room) Parameter TerminalKind.CloseBracket nesting tokens.now) }
+    ensures { Gives (λ p. (p.0, p.1.now)) result (spec.framed_with (reader language_limit room) Parameter TerminalKind.CloseBracket nesting tokens.now) }
 {
     Descent {
         alloc,
@@ -182,7 +182,7 @@ pub fn actuals(
 
 /// All the tokens as one expression.
 pub fn expression(alloc: Global, tokens: &[Terminal]) -> Result<Expr, Failure>
-    ensures { Gives (λ x. x) result (spec.expression bounded tokens.now) }
+    ensures { Gives (λ x. x) result (spec.expression language_limit tokens.now) }
 {
     let start = Start::Chain(Connective::Iff);
     let (tree, _, rest) = expr(

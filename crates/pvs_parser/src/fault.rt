@@ -2,7 +2,7 @@
 
 ghost use Rattle.std.specs.Prelude.{◌≡◌, ◌≤◌, ◌^◌, length};
 ghost use Rattle.pvs_base.specs.Place.{place_after};
-ghost use Rattle.pvs_parser.specs.Reading.{reported};
+ghost use Rattle.pvs_parser.specs.Reading.{report_of};
 ghost use Rattle.pvs_parser.specs.Faults as faults;
 ghost use Rattle.pvs_parser.specs.Reading as spec;
 
@@ -26,7 +26,7 @@ fn kind_before(tokens: &[Terminal], at: usize, back: usize) -> Option<TerminalKi
 
 /// Whether a token of this number follows `TYPE+` or NONEMPTY_TYPE.
 fn is_behind_nonempty(tokens: &[Terminal], at: usize) -> bool
-    ensures { result ≡ faults.behind_nonempty (faults.kind_before tokens.now at 1) (faults.kind_before tokens.now at 2) }
+    ensures { result ≡ faults.after_nonempty (faults.kind_before tokens.now at 1) (faults.kind_before tokens.now at 2) }
 {
     match (kind_before(tokens, at, 1), kind_before(tokens, at, 2)) {
         (Some(TerminalKind::Plus), Some(TerminalKind::Type)) => true,
@@ -59,7 +59,7 @@ fn code_of(tokens: &[Terminal], at: usize, kind: TerminalKind, reason: Reason) -
 }
 
 /// The fault of a stop in the tokens of a span, whose first byte has the place `pos`, with the
-/// lexical fault behind the tokens, if there is one.
+/// lexical fault after the tokens, if there is one.
 ///
 /// Where no token is left, it is the lexical fault, or that the span ends: at the place after its
 /// last byte.
@@ -96,7 +96,7 @@ pub fn parse_fault(
     requires size { length span.now ≤ 2 ^ 20 }
     requires line { pos.line ≤ 2 ^ 30 }
     requires col { pos.col ≤ 2 ^ 30 }
-    ensures { result ≡ reported (place_after pos span.now) lexical tokens.now failure }
+    ensures { result ≡ report_of (place_after pos span.now) lexical tokens.now failure }
 {
     match failure {
         Failure::Memory => ParseFault::Memory,

@@ -2,7 +2,7 @@
 
 ghost use Rattle.std.specs.Prelude.{◌≡◌, ◌<◌, [], length, map, IfOk};
 ghost use Rattle.pvs_parser.specs.Descent.{Gives};
-ghost use Rattle.pvs_parser.specs.Language.{bounded, inside, outermost};
+ghost use Rattle.pvs_parser.specs.Language.{language_limit, in_frame, outermost};
 ghost use Rattle.pvs_parser.specs.Steps.{each};
 ghost use Rattle.pvs_parser.specs.Units.{type_formal, const_formal};
 ghost use Rattle.pvs_parser.specs.UnitDescent as spec;
@@ -28,13 +28,13 @@ pub fn type_of(
     nesting: Nesting,
     tokens: &[Terminal],
 ) -> Result<(TypeExpr, &[Terminal]), Failure>
-    ensures { Gives (λ p. (p.0, p.1.now)) result (spec.type bounded nesting tokens.now) }
+    ensures { Gives (λ p. (p.0, p.1.now)) result (spec.type language_limit nesting tokens.now) }
 {
     let (ty, _, rest) = type_expr(alloc, CALLS, tokens.len() + 1, nesting, tokens)?;
     Ok((ty, rest))
 }
 
-/// Whether a type is declared nonempty, behind TYPE, and the tokens after that.
+/// Whether a type is declared nonempty, after TYPE, and the tokens after that.
 pub fn plus(tokens: &[Terminal]) -> (bool, &[Terminal])
     ensures { (result.0, result.1.now) ≡ spec.plus tokens.now }
 {
@@ -64,7 +64,7 @@ fn const_formals<'a>(
     tokens: &'a [Terminal],
 ) -> Result<(Items<Formal>, &'a [Terminal]), Failure>
     requires { 0 < length names.now }
-    ensures { Gives (λ p. (p.0, p.1.now)) result (each const_formal names.now (spec.type bounded (inside outermost) tokens.now)) }
+    ensures { Gives (λ p. (p.0, p.1.now)) result (each const_formal names.now (spec.type language_limit (in_frame outermost) tokens.now)) }
 {
     let mut found = Items::new(alloc);
     let mut rest = tokens;
@@ -83,7 +83,7 @@ fn formal_after<'a>(
     tokens: &'a [Terminal],
 ) -> Result<(Items<Formal>, &'a [Terminal]), Failure>
     requires { 0 < length names.now }
-    ensures { Gives (λ p. (p.0, p.1.now)) result (spec.formal_after bounded names.now tokens.now) }
+    ensures { Gives (λ p. (p.0, p.1.now)) result (spec.formal_after language_limit names.now tokens.now) }
 {
     let [token, rest @ ..] = tokens else {
         return Err(stop(tokens));
@@ -100,7 +100,7 @@ fn formal_after<'a>(
 
 /// A formal for each of some names.
 fn formal(alloc: Global, tokens: &[Terminal]) -> Result<(Items<Formal>, &[Terminal]), Failure>
-    ensures { Gives (λ p. (p.0, p.1.now)) result (spec.formal bounded tokens.now) }
+    ensures { Gives (λ p. (p.0, p.1.now)) result (spec.formal language_limit tokens.now) }
 {
     let (names, rest) = ids(alloc, tokens)?;
     let rest = expect(TerminalKind::Colon, rest)?;
@@ -110,7 +110,7 @@ fn formal(alloc: Global, tokens: &[Terminal]) -> Result<(Items<Formal>, &[Termin
 /// Formals with commas between them, and the tokens after them.
 #[tactic(auto, using(crate::proofs::UnitTurns::formals_init, crate::proofs::UnitTurns::formals_err, crate::proofs::UnitTurns::formals_last, crate::proofs::UnitTurns::formals_next, crate::proofs::UnitTurns::formals_full))]
 fn formals(alloc: Global, tokens: &[Terminal]) -> Result<(Items<Formal>, &[Terminal]), Failure>
-    ensures { Gives (λ p. (p.0, p.1.now)) result (spec.formals_from bounded 200 [] tokens.now) }
+    ensures { Gives (λ p. (p.0, p.1.now)) result (spec.formals_from language_limit 200 [] tokens.now) }
 {
     let mut found = Items::new(alloc);
     let mut rest = tokens;
@@ -130,7 +130,7 @@ pub fn formal_part(
     alloc: Global,
     tokens: &[Terminal],
 ) -> Result<(Items<Formal>, &[Terminal]), Failure>
-    ensures { Gives (λ p. (p.0, p.1.now)) result (spec.formal_part bounded tokens.now) }
+    ensures { Gives (λ p. (p.0, p.1.now)) result (spec.formal_part language_limit tokens.now) }
 {
     let Some(rest) = after(TerminalKind::OpenBracket, tokens) else {
         return Ok((Items::new(alloc), tokens));

@@ -2,7 +2,7 @@
 
 ghost use Rattle.std.specs.Prelude.{◌≡◌, ◌<◌, ◌+◌, [], length, IfOk};
 ghost use Rattle.pvs_parser.specs.Descent.{Gives};
-ghost use Rattle.pvs_parser.specs.Language.{bounded};
+ghost use Rattle.pvs_parser.specs.Language.{language_limit};
 ghost use Rattle.pvs_parser.specs.UnitDescent as spec;
 
 use crate::descent::actuals;
@@ -19,7 +19,7 @@ use std::alloc::Global;
 /// Identifiers with commas between them, and the tokens after them.
 #[tactic(auto, using(crate::proofs::UnitTurns::ids_init, crate::proofs::UnitTurns::ids_err, crate::proofs::UnitTurns::ids_last, crate::proofs::UnitTurns::ids_next, crate::proofs::UnitTurns::ids_full))]
 pub fn ids(alloc: Global, tokens: &[Terminal]) -> Result<(Vec<Word>, &[Terminal]), Failure>
-    ensures value { Gives (λ p. (p.0.items, p.1.now)) result (spec.ids bounded tokens.now) }
+    ensures value { Gives (λ p. (p.0.items, p.1.now)) result (spec.ids language_limit tokens.now) }
     ensures some { IfOk result (λ p. 0 < length p.0.items) }
 {
     let mut found = Vec::new(alloc);
@@ -35,9 +35,9 @@ pub fn ids(alloc: Global, tokens: &[Terminal]) -> Result<(Vec<Word>, &[Terminal]
     Err(crowded(comes_id(rest), rest))
 }
 
-/// A theory, with the actuals that stand behind its name.
+/// A theory, with the actuals that stand after its name.
 fn inst(alloc: Global, tokens: &[Terminal]) -> Result<(InstExpr, &[Terminal]), Failure>
-    ensures { Gives (λ p. (p.0, p.1.now)) result (spec.inst bounded tokens.now) }
+    ensures { Gives (λ p. (p.0, p.1.now)) result (spec.inst language_limit tokens.now) }
 {
     let (theory, rest) = id(tokens)?;
     let (actuals, rest) = match after(TerminalKind::OpenBracket, rest) {
@@ -50,7 +50,7 @@ fn inst(alloc: Global, tokens: &[Terminal]) -> Result<(InstExpr, &[Terminal]), F
 /// Instances with commas between them, and the tokens after them.
 #[tactic(auto, using(crate::proofs::UnitTurns::instances_err, crate::proofs::UnitTurns::instances_last, crate::proofs::UnitTurns::instances_next, crate::proofs::UnitTurns::instances_full))]
 fn instances(alloc: Global, tokens: &[Terminal]) -> Result<(Vec<InstExpr>, &[Terminal]), Failure>
-    ensures { Gives (λ p. (p.0.items, p.1.now)) result (spec.instances_from bounded (length tokens.now + 1) [] tokens.now) }
+    ensures { Gives (λ p. (p.0.items, p.1.now)) result (spec.instances_from language_limit (length tokens.now + 1) [] tokens.now) }
 {
     let mut found = Vec::new(alloc);
     let mut rest = tokens;
@@ -65,9 +65,9 @@ fn instances(alloc: Global, tokens: &[Terminal]) -> Result<(Vec<InstExpr>, &[Ter
     Err(stop(rest))
 }
 
-/// What stands behind IMPORTING: an entry for each instance.
+/// What stands after IMPORTING: an entry for each instance.
 pub fn importing(alloc: Global, tokens: &[Terminal]) -> Result<(Items<Decl>, &[Terminal]), Failure>
-    ensures { Gives (λ p. (p.0, p.1.now)) result (spec.importing bounded tokens.now) }
+    ensures { Gives (λ p. (p.0, p.1.now)) result (spec.importing language_limit tokens.now) }
 {
     let (instances, rest) = instances(alloc, tokens)?;
     let decls: Vec<Decl> = instances

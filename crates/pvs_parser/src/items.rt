@@ -3,7 +3,7 @@
 ghost use Rattle.std.specs.Prelude.{◌≡◌};
 ghost use Rattle.pvs_parser.specs.Descent.{Gives};
 ghost use Rattle.pvs_parser.specs.Descent as spec;
-ghost use Rattle.pvs_parser.specs.Nests.{Nests, below};
+ghost use Rattle.pvs_parser.specs.Nests.{Nests, bounded_reader};
 
 use crate::descent::{Descent, Read};
 use crate::nesting::Nesting;
@@ -22,7 +22,7 @@ where
     /// An actual parameter.
     pub fn parameter<'a>(&self, nesting: Nesting, tokens: &'a [Terminal]) -> Read<'a, Actual>
         requires { Nests self.now.room (E.pre self.now.expr) (E.post self.now.expr) (T.pre self.now.ty) (T.post self.now.ty) }
-        ensures { Gives (λ p. (p.0, p.1, p.2.now)) result (spec.parameter_with (below self.now.room) nesting tokens.now) }
+        ensures { Gives (λ p. (p.0, p.1, p.2.now)) result (spec.parameter_with (bounded_reader self.now.room) nesting tokens.now) }
     {
         if comes_type_actual(tokens) {
             let (ty, nesting, rest) = self.type_expr(nesting, tokens)?;
@@ -32,10 +32,10 @@ where
         Ok((Actual::ExprActual(expr), nesting, rest))
     }
 
-    /// A name, and its type behind the colon.
+    /// A name, and its type after the colon.
     fn typed<'a>(&self, word: Word, nesting: Nesting, tokens: &'a [Terminal]) -> Read<'a, Binding>
         requires { Nests self.now.room (E.pre self.now.expr) (E.post self.now.expr) (T.pre self.now.ty) (T.post self.now.ty) }
-        ensures { Gives (λ p. (p.0, p.1, p.2.now)) result (spec.typed_with (below self.now.room) word nesting tokens.now) }
+        ensures { Gives (λ p. (p.0, p.1, p.2.now)) result (spec.typed_with (bounded_reader self.now.room) word nesting tokens.now) }
     {
         let (ty, nesting, rest) = self.type_expr(nesting, tokens)?;
         Ok((typed(word, ty), nesting, rest))
@@ -44,7 +44,7 @@ where
     /// A component without a name.
     fn unnamed<'a>(&self, nesting: Nesting, tokens: &'a [Terminal]) -> Read<'a, Binding>
         requires { Nests self.now.room (E.pre self.now.expr) (E.post self.now.expr) (T.pre self.now.ty) (T.post self.now.ty) }
-        ensures { Gives (λ p. (p.0, p.1, p.2.now)) result (spec.unnamed_with (below self.now.room) nesting tokens.now) }
+        ensures { Gives (λ p. (p.0, p.1, p.2.now)) result (spec.unnamed_with (bounded_reader self.now.room) nesting tokens.now) }
     {
         let [token, ..] = tokens else {
             return Err(stop(tokens));
@@ -56,7 +56,7 @@ where
     /// A component of a domain or of a tuple type.
     pub fn component<'a>(&self, nesting: Nesting, tokens: &'a [Terminal]) -> Read<'a, Binding>
         requires { Nests self.now.room (E.pre self.now.expr) (E.post self.now.expr) (T.pre self.now.ty) (T.post self.now.ty) }
-        ensures { Gives (λ p. (p.0, p.1, p.2.now)) result (spec.component_with (below self.now.room) nesting tokens.now) }
+        ensures { Gives (λ p. (p.0, p.1, p.2.now)) result (spec.component_with (bounded_reader self.now.room) nesting tokens.now) }
     {
         match labels(tokens) {
             Some((word, rest)) => self.typed(word, nesting, rest),
@@ -64,10 +64,10 @@ where
         }
     }
 
-    /// A variable, with its type where a colon stands behind it.
+    /// A variable, with its type where a colon stands after it.
     pub fn variable<'a>(&self, nesting: Nesting, tokens: &'a [Terminal]) -> Read<'a, Binding>
         requires { Nests self.now.room (E.pre self.now.expr) (E.post self.now.expr) (T.pre self.now.ty) (T.post self.now.ty) }
-        ensures { Gives (λ p. (p.0, p.1, p.2.now)) result (spec.variable_with (below self.now.room) nesting tokens.now) }
+        ensures { Gives (λ p. (p.0, p.1, p.2.now)) result (spec.variable_with (bounded_reader self.now.room) nesting tokens.now) }
     {
         let (word, rest) = id(tokens)?;
         match after(TerminalKind::Colon, rest) {
@@ -76,7 +76,7 @@ where
         }
     }
 
-    /// The value of a part of a LET, behind the name and the type.
+    /// The value of a part of a LET, after the name and the type.
     fn value<'a>(
         &self,
         word: Word,
@@ -85,7 +85,7 @@ where
         tokens: &'a [Terminal],
     ) -> Read<'a, LetPart>
         requires { Nests self.now.room (E.pre self.now.expr) (E.post self.now.expr) (T.pre self.now.ty) (T.post self.now.ty) }
-        ensures { Gives (λ p. (p.0, p.1, p.2.now)) result (spec.value_with (below self.now.room) word ty nesting tokens.now) }
+        ensures { Gives (λ p. (p.0, p.1, p.2.now)) result (spec.value_with (bounded_reader self.now.room) word ty nesting tokens.now) }
     {
         let rest = expect(TerminalKind::Equal, tokens)?;
         let (value, nesting, rest) = self.expr(nesting, rest)?;
@@ -95,7 +95,7 @@ where
     /// A part of a LET.
     pub fn definition<'a>(&self, nesting: Nesting, tokens: &'a [Terminal]) -> Read<'a, LetPart>
         requires { Nests self.now.room (E.pre self.now.expr) (E.post self.now.expr) (T.pre self.now.ty) (T.post self.now.ty) }
-        ensures { Gives (λ p. (p.0, p.1, p.2.now)) result (spec.definition_with (below self.now.room) nesting tokens.now) }
+        ensures { Gives (λ p. (p.0, p.1, p.2.now)) result (spec.definition_with (bounded_reader self.now.room) nesting tokens.now) }
     {
         let (word, rest) = id(tokens)?;
         let Some(rest) = after(TerminalKind::Colon, rest) else {

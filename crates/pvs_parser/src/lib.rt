@@ -31,7 +31,7 @@ mod types;
 mod units;
 
 pub use failure::{ParseFault, Reason};
-pub use grammar::{one_expression, one_unit, prefix_begins};
+pub use grammar::{first_tokens, one_expression, one_unit, prefix_begins};
 pub use nesting::Nesting;
 pub use parse::{one_answer, one_span_answer, parse_expr, parse_unit};
 pub use terminal::{Connective, Prefix, Terminal, TerminalKind};

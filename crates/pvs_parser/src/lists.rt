@@ -4,7 +4,7 @@ ghost use Rattle.std.specs.Prelude.{◌≡◌, []};
 ghost use Rattle.pvs_parser.specs.Descent.{Gives};
 ghost use Rattle.pvs_parser.specs.Descent as spec;
 ghost use Rattle.pvs_parser.specs.Language.{Expression, Parameter, Component, Variable, BareVariable, Definition};
-ghost use Rattle.pvs_parser.specs.Nests.{Nests, ReadsItems, below, crowded_at};
+ghost use Rattle.pvs_parser.specs.Nests.{Nests, ReadsItems, bounded_reader, end_of_list_at};
 
 use crate::descent::{Descent, Read};
 use crate::failure::Failure;
@@ -20,10 +20,10 @@ use pvs_syntax::{Actual, Binding, Expr, LetPart, TypeExpr};
 use sqlite_items::Items;
 use std::alloc::Global;
 
-/// Why reading stops behind the most items that a list may have. Where one more may begin, as
+/// Why reading stops after the most items that a list may have. Where one more may begin, as
 /// `is_start` says, that is one too many.
 pub fn crowded(is_start: bool, tokens: &[Terminal]) -> Failure
-    ensures { result ≡ Failure.At (crowded_at is_start tokens.now) }
+    ensures { result ≡ Failure.At (end_of_list_at is_start tokens.now) }
 {
     if is_start {
         too_many(tokens)
@@ -72,7 +72,7 @@ where
     /// Expressions.
     fn exprs<'a>(&self, nesting: Nesting, tokens: &'a [Terminal]) -> Read<'a, Items<Expr>>
         requires { Nests self.now.room (E.pre self.now.expr) (E.post self.now.expr) (T.pre self.now.ty) (T.post self.now.ty) }
-        ensures { Gives (λ p. (p.0, p.1, p.2.now)) result (spec.list_with (below self.now.room) Expression nesting tokens.now) }
+        ensures { Gives (λ p. (p.0, p.1, p.2.now)) result (spec.list_with (bounded_reader self.now.room) Expression nesting tokens.now) }
     {
         let item = |nesting, tokens| self.expr(nesting, tokens);
         list(self.alloc, nesting, tokens, item, comes_expr)
@@ -81,7 +81,7 @@ where
     /// Actual parameters.
     fn actual_list<'a>(&self, nesting: Nesting, tokens: &'a [Terminal]) -> Read<'a, Items<Actual>>
         requires { Nests self.now.room (E.pre self.now.expr) (E.post self.now.expr) (T.pre self.now.ty) (T.post self.now.ty) }
-        ensures { Gives (λ p. (p.0, p.1, p.2.now)) result (spec.list_with (below self.now.room) Parameter nesting tokens.now) }
+        ensures { Gives (λ p. (p.0, p.1, p.2.now)) result (spec.list_with (bounded_reader self.now.room) Parameter nesting tokens.now) }
     {
         let item = |nesting, tokens| self.parameter(nesting, tokens);
         let is_start = |tokens| comes_expr(tokens) || comes_type_actual(tokens);
@@ -95,7 +95,7 @@ where
         tokens: &'a [Terminal],
     ) -> Read<'a, Items<Binding>>
         requires { Nests self.now.room (E.pre self.now.expr) (E.post self.now.expr) (T.pre self.now.ty) (T.post self.now.ty) }
-        ensures { Gives (λ p. (p.0, p.1, p.2.now)) result (spec.list_with (below self.now.room) Component nesting tokens.now) }
+        ensures { Gives (λ p. (p.0, p.1, p.2.now)) result (spec.list_with (bounded_reader self.now.room) Component nesting tokens.now) }
     {
         let item = |nesting, tokens| self.component(nesting, tokens);
         list(self.alloc, nesting, tokens, item, comes_type)
@@ -104,7 +104,7 @@ where
     /// Variables with or without types.
     fn variables<'a>(&self, nesting: Nesting, tokens: &'a [Terminal]) -> Read<'a, Items<Binding>>
         requires { Nests self.now.room (E.pre self.now.expr) (E.post self.now.expr) (T.pre self.now.ty) (T.post self.now.ty) }
-        ensures { Gives (λ p. (p.0, p.1, p.2.now)) result (spec.list_with (below self.now.room) Variable nesting tokens.now) }
+        ensures { Gives (λ p. (p.0, p.1, p.2.now)) result (spec.list_with (bounded_reader self.now.room) Variable nesting tokens.now) }
     {
         let item = |nesting, tokens| self.variable(nesting, tokens);
         list(self.alloc, nesting, tokens, item, comes_id)
@@ -117,7 +117,7 @@ where
         tokens: &'a [Terminal],
     ) -> Read<'a, Items<Binding>>
         requires { Nests self.now.room (E.pre self.now.expr) (E.post self.now.expr) (T.pre self.now.ty) (T.post self.now.ty) }
-        ensures { Gives (λ p. (p.0, p.1, p.2.now)) result (spec.list_with (below self.now.room) BareVariable nesting tokens.now) }
+        ensures { Gives (λ p. (p.0, p.1, p.2.now)) result (spec.list_with (bounded_reader self.now.room) BareVariable nesting tokens.now) }
     {
         list(self.alloc, nesting, tokens, bare_variable, comes_id)
     }
@@ -129,7 +129,7 @@ where
         tokens: &'a [Terminal],
     ) -> Read<'a, Items<LetPart>>
         requires { Nests self.now.room (E.pre self.now.expr) (E.post self.now.expr) (T.pre self.now.ty) (T.post self.now.ty) }
-        ensures { Gives (λ p. (p.0, p.1, p.2.now)) result (spec.list_with (below self.now.room) Definition nesting tokens.now) }
+        ensures { Gives (λ p. (p.0, p.1, p.2.now)) result (spec.list_with (bounded_reader self.now.room) Definition nesting tokens.now) }
     {
         let item = |nesting, tokens| self.definition(nesting, tokens);
         list(self.alloc, nesting, tokens, item, comes_id)
@@ -142,7 +142,7 @@ where
         tokens: &'a [Terminal],
     ) -> Result<(Items<Expr>, &'a [Terminal]), Failure>
         requires { Nests self.now.room (E.pre self.now.expr) (E.post self.now.expr) (T.pre self.now.ty) (T.post self.now.ty) }
-        ensures { Gives (λ p. (p.0, p.1.now)) result (spec.framed_with (below self.now.room) Expression TerminalKind.Close nesting tokens.now) }
+        ensures { Gives (λ p. (p.0, p.1.now)) result (spec.framed_with (bounded_reader self.now.room) Expression TerminalKind.Close nesting tokens.now) }
     {
         let nesting = nesting.enter(tokens)?;
         let (found, _, rest) = self.exprs(nesting, tokens)?;
@@ -157,7 +157,7 @@ where
         tokens: &'a [Terminal],
     ) -> Result<(Items<Actual>, &'a [Terminal]), Failure>
         requires { Nests self.now.room (E.pre self.now.expr) (E.post self.now.expr) (T.pre self.now.ty) (T.post self.now.ty) }
-        ensures { Gives (λ p. (p.0, p.1.now)) result (spec.framed_with (below self.now.room) Parameter TerminalKind.CloseBracket nesting tokens.now) }
+        ensures { Gives (λ p. (p.0, p.1.now)) result (spec.framed_with (bounded_reader self.now.room) Parameter TerminalKind.CloseBracket nesting tokens.now) }
     {
         let nesting = nesting.enter(tokens)?;
         let (found, _, rest) = self.actual_list(nesting, tokens)?;
@@ -172,7 +172,7 @@ where
         tokens: &'a [Terminal],
     ) -> Result<(Items<Binding>, &'a [Terminal]), Failure>
         requires { Nests self.now.room (E.pre self.now.expr) (E.post self.now.expr) (T.pre self.now.ty) (T.post self.now.ty) }
-        ensures { Gives (λ p. (p.0, p.1.now)) result (spec.framed_with (below self.now.room) Variable TerminalKind.Close nesting tokens.now) }
+        ensures { Gives (λ p. (p.0, p.1.now)) result (spec.framed_with (bounded_reader self.now.room) Variable TerminalKind.Close nesting tokens.now) }
     {
         let nesting = nesting.enter(tokens)?;
         let (found, _, rest) = self.variables(nesting, tokens)?;

@@ -3,7 +3,7 @@
 ghost use Rattle.std.specs.Prelude.{◌≡◌};
 ghost use Rattle.pvs_parser.specs.Descent.{Gives};
 ghost use Rattle.pvs_parser.specs.Descent as spec;
-ghost use Rattle.pvs_parser.specs.Nests.{Nests, below};
+ghost use Rattle.pvs_parser.specs.Nests.{Nests, bounded_reader};
 
 use crate::descent::{Descent, Read};
 use crate::failure::Failure;
@@ -21,7 +21,7 @@ where
     E: Fn(Global, usize, usize, Start, Nesting, &[Terminal]) -> Read<'_, Expr>,
     T: Fn(Global, usize, usize, Nesting, &[Terminal]) -> Read<'_, TypeExpr>,
 {
-    /// A name behind the bracket of its theory.
+    /// A name after the bracket of its theory.
     fn instance_name<'a>(
         &self,
         theory: Word,
@@ -29,14 +29,14 @@ where
         tokens: &'a [Terminal],
     ) -> Result<(NameExpr, &'a [Terminal]), Failure>
         requires { Nests self.now.room (E.pre self.now.expr) (E.post self.now.expr) (T.pre self.now.ty) (T.post self.now.ty) }
-        ensures { Gives (λ p. (p.0, p.1.now)) result (spec.instance_name_with (below self.now.room) theory nesting tokens.now) }
+        ensures { Gives (λ p. (p.0, p.1.now)) result (spec.instance_name_with (bounded_reader self.now.room) theory nesting tokens.now) }
     {
         let (actuals, rest) = self.actuals(nesting, tokens)?;
         let rest = expect(TerminalKind::Dot, rest)?;
         name_of(theory, actuals, rest)
     }
 
-    /// A name behind its first identifier.
+    /// A name after its first identifier.
     pub fn name_after<'a>(
         &self,
         word: Word,
@@ -44,7 +44,7 @@ where
         tokens: &'a [Terminal],
     ) -> Result<(NameExpr, &'a [Terminal]), Failure>
         requires { Nests self.now.room (E.pre self.now.expr) (E.post self.now.expr) (T.pre self.now.ty) (T.post self.now.ty) }
-        ensures { Gives (λ p. (p.0, p.1.now)) result (spec.name_after (below self.now.room) word nesting tokens.now) }
+        ensures { Gives (λ p. (p.0, p.1.now)) result (spec.name_after (bounded_reader self.now.room) word nesting tokens.now) }
     {
         if let Some(rest) = after(TerminalKind::OpenBracket, tokens) {
             return self.instance_name(word, nesting, rest);

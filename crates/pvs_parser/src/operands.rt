@@ -3,7 +3,7 @@
 ghost use Rattle.std.specs.Prelude.{◌≡◌};
 ghost use Rattle.pvs_parser.specs.Descent.{Gives};
 ghost use Rattle.pvs_parser.specs.Descent as spec;
-ghost use Rattle.pvs_parser.specs.Nests.{Nests, below};
+ghost use Rattle.pvs_parser.specs.Nests.{Nests, bounded_reader};
 
 use crate::descent::{Descent, Read};
 use crate::nesting::Nesting;
@@ -23,7 +23,7 @@ where
     /// Terms with `=` and `/=` between them. The last may be what NOT, a binder or LET begins.
     fn comparison<'a>(&self, nesting: Nesting, tokens: &'a [Terminal]) -> Read<'a, Expr>
         requires { Nests self.now.room (E.pre self.now.expr) (E.post self.now.expr) (T.pre self.now.ty) (T.post self.now.ty) }
-        ensures { Gives (λ p. (p.0, p.1, p.2.now)) result (spec.comparison_with (below self.now.room) nesting tokens.now) }
+        ensures { Gives (λ p. (p.0, p.1, p.2.now)) result (spec.comparison_with (bounded_reader self.now.room) nesting tokens.now) }
     {
         let (mut left, mut nesting, mut rest) = self.term(nesting, tokens)?;
         for _ in 0..tokens.len() {
@@ -46,7 +46,7 @@ where
     /// What stands between connectives.
     pub fn operand<'a>(&self, nesting: Nesting, tokens: &'a [Terminal]) -> Read<'a, Expr>
         requires { Nests self.now.room (E.pre self.now.expr) (E.post self.now.expr) (T.pre self.now.ty) (T.post self.now.ty) }
-        ensures { Gives (λ p. (p.0, p.1, p.2.now)) result (spec.operand_with (below self.now.room) nesting tokens.now) }
+        ensures { Gives (λ p. (p.0, p.1, p.2.now)) result (spec.operand_with (bounded_reader self.now.room) nesting tokens.now) }
     {
         match begins(tokens) {
             Some((prefix, word, rest)) => self.prefixed(nesting, prefix, word, rest),
@@ -54,7 +54,7 @@ where
         }
     }
 
-    /// What `left` and the connective behind it begin, where that connective comes next.
+    /// What `left` and the connective after it begin, where that connective comes next.
     fn chain_after<'a>(
         &self,
         connective: Connective,
@@ -63,7 +63,7 @@ where
         tokens: &'a [Terminal],
     ) -> Read<'a, Expr>
         requires { Nests self.now.room (E.pre self.now.expr) (E.post self.now.expr) (T.pre self.now.ty) (T.post self.now.ty) }
-        ensures { Gives (λ p. (p.0, p.1, p.2.now)) result (spec.chain_after (below self.now.room) connective left nesting tokens.now) }
+        ensures { Gives (λ p. (p.0, p.1, p.2.now)) result (spec.chain_after (bounded_reader self.now.room) connective left nesting tokens.now) }
     {
         let Some(rest) = after(sign(connective), tokens) else {
             return Ok((left, nesting, tokens));
@@ -80,7 +80,7 @@ where
     /// Operands with AND between them.
     fn conjunction<'a>(&self, nesting: Nesting, tokens: &'a [Terminal]) -> Read<'a, Expr>
         requires { Nests self.now.room (E.pre self.now.expr) (E.post self.now.expr) (T.pre self.now.ty) (T.post self.now.ty) }
-        ensures { Gives (λ p. (p.0, p.1, p.2.now)) result (spec.chain_with (below self.now.room) Connective.And nesting tokens.now) }
+        ensures { Gives (λ p. (p.0, p.1, p.2.now)) result (spec.chain_with (bounded_reader self.now.room) Connective.And nesting tokens.now) }
     {
         let (left, nesting, rest) = self.operand(nesting, tokens)?;
         self.chain_after(Connective::And, left, nesting, rest)
@@ -89,7 +89,7 @@ where
     /// Conjunctions with OR between them.
     fn disjunction<'a>(&self, nesting: Nesting, tokens: &'a [Terminal]) -> Read<'a, Expr>
         requires { Nests self.now.room (E.pre self.now.expr) (E.post self.now.expr) (T.pre self.now.ty) (T.post self.now.ty) }
-        ensures { Gives (λ p. (p.0, p.1, p.2.now)) result (spec.chain_with (below self.now.room) Connective.Or nesting tokens.now) }
+        ensures { Gives (λ p. (p.0, p.1, p.2.now)) result (spec.chain_with (bounded_reader self.now.room) Connective.Or nesting tokens.now) }
     {
         let (left, nesting, rest) = self.conjunction(nesting, tokens)?;
         self.chain_after(Connective::Or, left, nesting, rest)
@@ -98,7 +98,7 @@ where
     /// Disjunctions with IMPLIES between them.
     fn implication<'a>(&self, nesting: Nesting, tokens: &'a [Terminal]) -> Read<'a, Expr>
         requires { Nests self.now.room (E.pre self.now.expr) (E.post self.now.expr) (T.pre self.now.ty) (T.post self.now.ty) }
-        ensures { Gives (λ p. (p.0, p.1, p.2.now)) result (spec.chain_with (below self.now.room) Connective.Implies nesting tokens.now) }
+        ensures { Gives (λ p. (p.0, p.1, p.2.now)) result (spec.chain_with (bounded_reader self.now.room) Connective.Implies nesting tokens.now) }
     {
         let (left, nesting, rest) = self.disjunction(nesting, tokens)?;
         self.chain_after(Connective::Implies, left, nesting, rest)
@@ -107,7 +107,7 @@ where
     /// Implications with IFF between them.
     fn equivalence<'a>(&self, nesting: Nesting, tokens: &'a [Terminal]) -> Read<'a, Expr>
         requires { Nests self.now.room (E.pre self.now.expr) (E.post self.now.expr) (T.pre self.now.ty) (T.post self.now.ty) }
-        ensures { Gives (λ p. (p.0, p.1, p.2.now)) result (spec.chain_with (below self.now.room) Connective.Iff nesting tokens.now) }
+        ensures { Gives (λ p. (p.0, p.1, p.2.now)) result (spec.chain_with (bounded_reader self.now.room) Connective.Iff nesting tokens.now) }
     {
         let (left, nesting, rest) = self.implication(nesting, tokens)?;
         self.chain_after(Connective::Iff, left, nesting, rest)
@@ -121,7 +121,7 @@ where
         tokens: &'a [Terminal],
     ) -> Read<'a, Expr>
         requires { Nests self.now.room (E.pre self.now.expr) (E.post self.now.expr) (T.pre self.now.ty) (T.post self.now.ty) }
-        ensures { Gives (λ p. (p.0, p.1, p.2.now)) result (spec.chain_with (below self.now.room) connective nesting tokens.now) }
+        ensures { Gives (λ p. (p.0, p.1, p.2.now)) result (spec.chain_with (bounded_reader self.now.room) connective nesting tokens.now) }
     {
         match connective {
             Connective::Iff => self.equivalence(nesting, tokens),

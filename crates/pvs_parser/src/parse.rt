@@ -6,7 +6,8 @@ ghost use Rattle.pvs_base.specs.declared.place.Pos as place;
 ghost use Rattle.pvs_syntax.specs.declared.expression.Expr as tree_expr;
 ghost use Rattle.pvs_syntax.specs.declared.unit.Unit as tree;
 ghost use Rattle.pvs_parser.specs.Reading.{Returns};
-ghost use Rattle.pvs_parser.specs.Text.{Reads, IsFirstFault, IsAnswer, Answers, ReadsSpan, IsFirstFaultOfSpan, AnswersSpan, IsSpanAnswer, AnswersTree, AnswersFault, SpansIn};
+ghost use Rattle.pvs_parser.specs.Text.{Reads, IsFirstFault, IsAnswer, Answers, ReadsSpan, IsFirstFaultOfSpan, AnswersSpan, IsSpanAnswer, AnswersTree, AnswersFault, SpansIn, HasAnswer, HasSpanAnswer};
+ghost use Rattle.pvs_syntax.specs.Trees.{IsTreeOf, IsTreeOfTerm};
 ghost use Rattle.pvs_parser.specs.Reading as spec;
 
 use crate::descent::expression;
@@ -63,10 +64,10 @@ fn read_span(alloc: Global, text: &[u8], start: u32, end: u32, pos: Pos) -> Resu
 /// - Unexpected, at the first token with which the tokens so far begin no unit, or at the place after
 ///   the last byte where the tokens begin one and are none;
 /// - OutOfProfile in place of Unexpected, where that token is a number, `+`, `-`, a quoted text,
-///   another word or symbol of PVS outside the grammar, or the `=` behind `TYPE+` or NONEMPTY_TYPE;
+///   another word or symbol of PVS outside the grammar, or the `=` after `TYPE+` or NONEMPTY_TYPE;
 /// - TooNested, at the token that opens level 201, or at the first token of the 201st entry of a
 ///   list;
-/// - WrongEnd, at an identifier behind END that is not the name of the theory.
+/// - WrongEnd, at an identifier after END that is not the name of the theory.
 ///
 /// Memory is for want of memory alone, that of the stack among it: a text whose reading would nest
 /// more than 700 calls wants more. Only texts do in which commas clear the marks of open forms.
@@ -75,6 +76,8 @@ pub fn parse_unit(alloc: Global, text: &[u8]) -> Result<Unit, ParseFault>
     // Where the text is a unit, that one is answered; where it has a first fault, that one is.
     ensures only { (u : tree.Unit) → Reads text.now u → AnswersTree u result }
     ensures first { (f : fault.Fault) → IsFirstFault text.now f → AnswersFault f result }
+    // Each word of the unit is a token of the text of its kind, and each list has a length of the grammar.
+    ensures tree { IfOk result (λ u. IsTreeOf text.now u) }
     // The script of each proof lies in the text, and its place is that of its first byte.
     ensures spans { IfOk result (λ u. SpansIn text.now u) }
     // A text that reads is no longer than a text may be.
@@ -106,18 +109,21 @@ pub fn parse_expr(
     // Where the span is an expression, that one is answered; where it has a first fault, that one is.
     ensures only { (x : tree_expr.Expr) → ReadsSpan text.now start end pos x → AnswersTree x result }
     ensures first { (f : fault.Fault) → IsFirstFaultOfSpan text.now start end pos f → AnswersFault f result }
+    // Each word of the expression is a token of the text of its kind, in which a variable of a sequent is an
+    // identifier, and each list has a length of the grammar.
+    ensures tree { IfOk result (λ x. IsTreeOfTerm text.now start pos x) }
 {
     read_span(alloc, text, start, end, pos)
 }
 
-/// Two answers of one text are the same: it has at most one unit and at most one first fault, and
-/// not both.
+/// Each text has exactly one answer: its unit, or its first fault.
 pub fn one_answer()
-    ensures { (text : List ℕ) (a b : Result tree.Unit fault.Fault) → IsAnswer text a → IsAnswer text b → a ≡ b }
+    ensures some { (text : List ℕ) → HasAnswer text }
+    ensures only { (text : List ℕ) (a b : Result tree.Unit fault.Fault) → IsAnswer text a → IsAnswer text b → a ≡ b }
 {}
 
-/// Two answers of one span are the same: it is at most one expression, and has at most one first
-/// fault, and not both.
+/// Each span of a text has exactly one answer: its expression, or its first fault.
 pub fn one_span_answer()
-    ensures { (text : List ℕ) (start end : ℕ) (pos : place.Pos) (a b : Result tree_expr.Expr fault.Fault) → IsSpanAnswer text start end pos a → IsSpanAnswer text start end pos b → a ≡ b }
+    ensures some { (text : List ℕ) (start end : ℕ) (pos : place.Pos) → HasSpanAnswer text start end pos }
+    ensures only { (text : List ℕ) (start end : ℕ) (pos : place.Pos) (a b : Result tree_expr.Expr fault.Fault) → IsSpanAnswer text start end pos a → IsSpanAnswer text start end pos b → a ≡ b }
 {}

@@ -3,7 +3,7 @@
 ghost use Rattle.std.specs.Prelude.{◌≡◌};
 ghost use Rattle.pvs_parser.specs.Descent.{Gives};
 ghost use Rattle.pvs_parser.specs.Descent as spec;
-ghost use Rattle.pvs_parser.specs.Nests.{Nests, below};
+ghost use Rattle.pvs_parser.specs.Nests.{Nests, bounded_reader};
 
 use crate::descent::{Descent, Read};
 use crate::nesting::Nesting;
@@ -19,7 +19,7 @@ where
     E: Fn(Global, usize, usize, Start, Nesting, &[Terminal]) -> Read<'_, Expr>,
     T: Fn(Global, usize, usize, Nesting, &[Terminal]) -> Read<'_, TypeExpr>,
 {
-    /// The body of a binder, behind its variables.
+    /// The body of a binder, after its variables.
     fn body<'a>(
         &self,
         variables: Items<Binding>,
@@ -29,7 +29,7 @@ where
         tokens: &'a [Terminal],
     ) -> Read<'a, Expr>
         requires { Nests self.now.room (E.pre self.now.expr) (E.post self.now.expr) (T.pre self.now.ty) (T.post self.now.ty) }
-        ensures { Gives (λ p. (p.0, p.1, p.2.now)) result (spec.body_with (below self.now.room) variables binder word nesting tokens.now) }
+        ensures { Gives (λ p. (p.0, p.1, p.2.now)) result (spec.body_with (bounded_reader self.now.room) variables binder word nesting tokens.now) }
     {
         let rest = expect(TerminalKind::Colon, tokens)?;
         let (body, nesting, rest) = self.expr(nesting, rest)?;
@@ -50,7 +50,7 @@ where
         tokens: &'a [Terminal],
     ) -> Read<'a, Expr>
         requires { Nests self.now.room (E.pre self.now.expr) (E.post self.now.expr) (T.pre self.now.ty) (T.post self.now.ty) }
-        ensures { Gives (λ p. (p.0, p.1, p.2.now)) result (spec.binder_with (below self.now.room) binder word nesting tokens.now) }
+        ensures { Gives (λ p. (p.0, p.1, p.2.now)) result (spec.binder_with (bounded_reader self.now.room) binder word nesting tokens.now) }
     {
         let nesting = nesting.hold(tokens)?;
         let Some(rest) = after(TerminalKind::Open, tokens) else {
@@ -64,7 +64,7 @@ where
     /// What LET begins.
     fn let_expr<'a>(&self, word: Word, nesting: Nesting, tokens: &'a [Terminal]) -> Read<'a, Expr>
         requires { Nests self.now.room (E.pre self.now.expr) (E.post self.now.expr) (T.pre self.now.ty) (T.post self.now.ty) }
-        ensures { Gives (λ p. (p.0, p.1, p.2.now)) result (spec.let_with (below self.now.room) word nesting tokens.now) }
+        ensures { Gives (λ p. (p.0, p.1, p.2.now)) result (spec.let_with (bounded_reader self.now.room) word nesting tokens.now) }
     {
         let nesting = nesting.hold(tokens)?;
         let (parts, nesting, rest) = self.definitions(nesting, tokens)?;
@@ -80,7 +80,7 @@ where
     /// What NOT begins.
     fn negation<'a>(&self, word: Word, nesting: Nesting, tokens: &'a [Terminal]) -> Read<'a, Expr>
         requires { Nests self.now.room (E.pre self.now.expr) (E.post self.now.expr) (T.pre self.now.ty) (T.post self.now.ty) }
-        ensures { Gives (λ p. (p.0, p.1, p.2.now)) result (spec.not_with (below self.now.room) word nesting tokens.now) }
+        ensures { Gives (λ p. (p.0, p.1, p.2.now)) result (spec.not_with (bounded_reader self.now.room) word nesting tokens.now) }
     {
         let nesting = nesting.mark(tokens)?;
         let (operand, nesting, rest) = self.read_from(Start::Operand, nesting, tokens)?;
@@ -91,7 +91,7 @@ where
         ))
     }
 
-    /// What stands behind `word`, which is the prefix.
+    /// What stands after `word`, which is the prefix.
     pub fn prefixed<'a>(
         &self,
         nesting: Nesting,
@@ -100,7 +100,7 @@ where
         tokens: &'a [Terminal],
     ) -> Read<'a, Expr>
         requires { Nests self.now.room (E.pre self.now.expr) (E.post self.now.expr) (T.pre self.now.ty) (T.post self.now.ty) }
-        ensures { Gives (λ p. (p.0, p.1, p.2.now)) result (spec.prefixed_with (below self.now.room) nesting prefix word tokens.now) }
+        ensures { Gives (λ p. (p.0, p.1, p.2.now)) result (spec.prefixed_with (bounded_reader self.now.room) nesting prefix word tokens.now) }
     {
         match prefix {
             Prefix::Negation => self.negation(word, nesting, tokens),

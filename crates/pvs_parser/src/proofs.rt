@@ -2,7 +2,7 @@
 
 ghost use Rattle.std.specs.Prelude.{◌≡◌, ◌<◌};
 ghost use Rattle.pvs_parser.specs.Descent.{Gives};
-ghost use Rattle.pvs_parser.specs.Language.{bounded};
+ghost use Rattle.pvs_parser.specs.Language.{language_limit};
 ghost use Rattle.pvs_parser.specs.UnitDescent as spec;
 
 use crate::failure::Failure;
@@ -11,12 +11,12 @@ use crate::tokens::{expect, id, stop, too_deep};
 use pvs_base::MAX_LEVEL;
 use pvs_syntax::{Proof, Word};
 
-/// The parenthesis that closes a script, behind the one that opens it, and the tokens after it.
+/// The parenthesis that closes a script, after the one that opens it, and the tokens after it.
 ///
 /// Only parentheses count for the level in a script.
-#[tactic(auto, unfolding(crate::specs::UnitDescent::balanced))]
+#[tactic(auto, unfolding(crate::specs::UnitDescent::closing_parenthesis))]
 fn balanced(tokens: &[Terminal]) -> Result<(Word, &[Terminal]), Failure>
-    ensures { Gives (λ p. (p.0, p.1.now)) result (spec.balanced bounded 0 tokens.now) }
+    ensures { Gives (λ p. (p.0, p.1.now)) result (spec.closing_parenthesis language_limit 0 tokens.now) }
 {
     // How many parentheses are open inside the outermost one.
     let mut open = 0;
@@ -37,7 +37,7 @@ fn balanced(tokens: &[Terminal]) -> Result<(Word, &[Terminal]), Failure>
 /// The first and the last parenthesis of a script, and the tokens after it. A script begins at level
 /// 0, so its first parenthesis has room.
 fn script(tokens: &[Terminal]) -> Result<(Word, Word, &[Terminal]), Failure>
-    ensures { Gives (λ p. (p.0, p.1, p.2.now)) result (spec.script bounded tokens.now) }
+    ensures { Gives (λ p. (p.0, p.1, p.2.now)) result (spec.script language_limit tokens.now) }
 {
     let [token, ..] = tokens else {
         return Err(stop(tokens));
@@ -47,7 +47,7 @@ fn script(tokens: &[Terminal]) -> Result<(Word, Word, &[Terminal]), Failure>
     Ok((token.word, last, rest))
 }
 
-/// The names of a theory and of a formula, behind a parenthesis and `proof`.
+/// The names of a theory and of a formula, after a parenthesis and `proof`.
 fn target(tokens: &[Terminal]) -> Result<(Word, Word, &[Terminal]), Failure>
     ensures { Gives (λ p. (p.0, p.1, p.2.now)) result (spec.target tokens.now) }
 {
@@ -58,9 +58,9 @@ fn target(tokens: &[Terminal]) -> Result<(Word, Word, &[Terminal]), Failure>
     Ok((theory, formula, rest))
 }
 
-/// A proof, behind its parenthesis, and the tokens after it.
+/// A proof, after its parenthesis, and the tokens after it.
 pub fn proof(tokens: &[Terminal]) -> Result<(Proof, &[Terminal]), Failure>
-    ensures { Gives (λ p. (p.0, p.1.now)) result (spec.proof bounded tokens.now) }
+    ensures { Gives (λ p. (p.0, p.1.now)) result (spec.proof language_limit tokens.now) }
 {
     let (theory, formula, rest) = target(tokens)?;
     let (first, last, rest) = script(rest)?;

@@ -219,7 +219,7 @@ fn parts(style: &Style<'_>, out: &mut String, trees: &[LetPart]) -> Result<(), A
     Ok(())
 }
 
-/// A name behind a parenthesis and a word.
+/// A name after a parenthesis and a word.
 fn begin(
     style: &Style<'_>,
     out: &mut String,

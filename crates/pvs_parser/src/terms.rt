@@ -3,7 +3,7 @@
 ghost use Rattle.std.specs.Prelude.{◌≡◌};
 ghost use Rattle.pvs_parser.specs.Descent.{Gives};
 ghost use Rattle.pvs_parser.specs.Descent as spec;
-ghost use Rattle.pvs_parser.specs.Nests.{Nests, below};
+ghost use Rattle.pvs_parser.specs.Nests.{Nests, bounded_reader};
 
 use crate::descent::{Descent, Read};
 use crate::failure::Failure;
@@ -16,7 +16,7 @@ use pvs_syntax::{Expr, TypeExpr, Word};
 use sqlite_items::Boxed;
 use std::alloc::Global;
 
-/// A term, whether a parenthesis behind it sets a mark, and the tokens after it.
+/// A term, whether a parenthesis after it sets a mark, and the tokens after it.
 type First<'a> = Result<(Expr, bool, &'a [Terminal]), Failure>;
 
 impl<E, T> Descent<E, T>
@@ -27,26 +27,26 @@ where
     /// What a parenthesis opens.
     fn group<'a>(&self, nesting: Nesting, word: Word, tokens: &'a [Terminal]) -> First<'a>
         requires { Nests self.now.room (E.pre self.now.expr) (E.post self.now.expr) (T.pre self.now.ty) (T.post self.now.ty) }
-        ensures { Gives (λ p. (p.0, p.1, p.2.now)) result (spec.group_with (below self.now.room) nesting word tokens.now) }
+        ensures { Gives (λ p. (p.0, p.1, p.2.now)) result (spec.group_with (bounded_reader self.now.room) nesting word tokens.now) }
     {
         let (exprs, rest) = self.arguments(nesting, tokens)?;
         Ok((grouped(self.alloc, word.pos, exprs)?, true, rest))
     }
 
-    /// The expression behind IF or ELSIF, up to THEN.
+    /// The expression after IF or ELSIF, up to THEN.
     fn condition<'a>(&self, nesting: Nesting, tokens: &'a [Terminal]) -> Read<'a, Expr>
         requires { Nests self.now.room (E.pre self.now.expr) (E.post self.now.expr) (T.pre self.now.ty) (T.post self.now.ty) }
-        ensures { Gives (λ p. (p.0, p.1, p.2.now)) result (spec.condition_with (below self.now.room) nesting tokens.now) }
+        ensures { Gives (λ p. (p.0, p.1, p.2.now)) result (spec.condition_with (bounded_reader self.now.room) nesting tokens.now) }
     {
         let (expr, nesting, rest) = self.expr(nesting, tokens)?;
         let rest = expect(TerminalKind::Then, rest)?;
         Ok((expr, nesting.cleared(), rest))
     }
 
-    /// What stands behind IF or ELSIF.
+    /// What stands after IF or ELSIF.
     pub fn cond<'a>(&self, word: Word, nesting: Nesting, tokens: &'a [Terminal]) -> Read<'a, Expr>
         requires { Nests self.now.room (E.pre self.now.expr) (E.post self.now.expr) (T.pre self.now.ty) (T.post self.now.ty) }
-        ensures { Gives (λ p. (p.0, p.1, p.2.now)) result (spec.cond_with (below self.now.room) word nesting tokens.now) }
+        ensures { Gives (λ p. (p.0, p.1, p.2.now)) result (spec.cond_with (bounded_reader self.now.room) word nesting tokens.now) }
     {
         let (test, nesting, rest) = self.condition(nesting, tokens)?;
         let (holds, nesting, rest) = self.expr(nesting, rest)?;
@@ -60,7 +60,7 @@ where
     /// What IF begins.
     fn if_expr<'a>(&self, nesting: Nesting, word: Word, tokens: &'a [Terminal]) -> First<'a>
         requires { Nests self.now.room (E.pre self.now.expr) (E.post self.now.expr) (T.pre self.now.ty) (T.post self.now.ty) }
-        ensures { Gives (λ p. (p.0, p.1, p.2.now)) result (spec.if_with (below self.now.room) nesting word tokens.now) }
+        ensures { Gives (λ p. (p.0, p.1, p.2.now)) result (spec.if_with (bounded_reader self.now.room) nesting word tokens.now) }
     {
         let nesting = nesting.enter(tokens)?;
         let (expr, _, rest) = self.cond(word, nesting, tokens)?;
@@ -69,16 +69,16 @@ where
 
     fn name_term<'a>(&self, nesting: Nesting, word: Word, tokens: &'a [Terminal]) -> First<'a>
         requires { Nests self.now.room (E.pre self.now.expr) (E.post self.now.expr) (T.pre self.now.ty) (T.post self.now.ty) }
-        ensures { Gives (λ p. (p.0, p.1, p.2.now)) result (spec.name_term_with (below self.now.room) nesting word tokens.now) }
+        ensures { Gives (λ p. (p.0, p.1, p.2.now)) result (spec.name_term_with (bounded_reader self.now.room) nesting word tokens.now) }
     {
         let (name, rest) = self.name_after(word, nesting, tokens)?;
         Ok((Expr::NameTerm(name), false, rest))
     }
 
-    /// A term without the arguments and projections behind it.
+    /// A term without the arguments and projections after it.
     fn first<'a>(&self, nesting: Nesting, tokens: &'a [Terminal]) -> First<'a>
         requires { Nests self.now.room (E.pre self.now.expr) (E.post self.now.expr) (T.pre self.now.ty) (T.post self.now.ty) }
-        ensures { Gives (λ p. (p.0, p.1, p.2.now)) result (spec.first_with (below self.now.room) nesting tokens.now) }
+        ensures { Gives (λ p. (p.0, p.1, p.2.now)) result (spec.first_with (bounded_reader self.now.room) nesting tokens.now) }
     {
         let [token, rest @ ..] = tokens else {
             return Err(stop(tokens));
@@ -93,7 +93,7 @@ where
         }
     }
 
-    /// The application of `function` to what stands behind the parenthesis.
+    /// The application of `function` to what stands after the parenthesis.
     fn call<'a>(
         &self,
         is_closed: bool,
@@ -102,7 +102,7 @@ where
         tokens: &'a [Terminal],
     ) -> Read<'a, Expr>
         requires { Nests self.now.room (E.pre self.now.expr) (E.post self.now.expr) (T.pre self.now.ty) (T.post self.now.ty) }
-        ensures { Gives (λ p. (p.0, p.1, p.2.now)) result (spec.call_with (below self.now.room) is_closed function nesting tokens.now) }
+        ensures { Gives (λ p. (p.0, p.1, p.2.now)) result (spec.call_with (bounded_reader self.now.room) is_closed function nesting tokens.now) }
     {
         let nesting = nesting.call_mark(is_closed, tokens)?;
         let (arguments, rest) = self.arguments(nesting, tokens)?;
@@ -113,7 +113,7 @@ where
     /// A term.
     pub fn term<'a>(&self, nesting: Nesting, tokens: &'a [Terminal]) -> Read<'a, Expr>
         requires { Nests self.now.room (E.pre self.now.expr) (E.post self.now.expr) (T.pre self.now.ty) (T.post self.now.ty) }
-        ensures { Gives (λ p. (p.0, p.1, p.2.now)) result (spec.term_with (below self.now.room) nesting tokens.now) }
+        ensures { Gives (λ p. (p.0, p.1, p.2.now)) result (spec.term_with (bounded_reader self.now.room) nesting tokens.now) }
     {
         let (mut term, mut is_closed, mut rest) = self.first(nesting, tokens)?;
         let mut nesting = nesting;

@@ -1,6 +1,6 @@
 //! Texts with their trees, written out by hand, and texts with their first faults.
 //!
-//! In the tables a text stands before `~>`, and behind it its tree, in which each form has its own
+//! In the tables a text stands before `~>`, and after it its tree, in which each form has its own
 //! parentheses, or its first fault.
 
 ghost use Rattle.std.specs.Prelude.{◌≤◌, ◌^◌, length};
@@ -101,7 +101,7 @@ EXISTS (x: [y: a, b -> [c, d, z: e]]): p ~> (some x:(-> y:a :b (* :c :d z:e)) p)
 EXISTS (x: {y: (q) | r}, z: th[a].t): p ~> (some x:(sub y:(pred q) r) z:th[a].t p)
 ";
 
-/// The column of a form's first token stands behind `@`.
+/// The column of a form's first token stands after `@`.
 const PLACES: &str = "\
 NOT x = TRUE ~> (~@1 (= x (T@9)))
 (x)((y, FALSE)) ~> ((paren@1 x) (,@5 y (F@9)))
@@ -272,7 +272,7 @@ const PROOFS: &str = "\
 \" ~> UnclosedQuote@1:1
 ";
 
-/// Where the lines of the grammar stop, in its order: behind nothing of a line, behind its first part,
+/// Where the lines of the grammar stop, in its order: after nothing of a line, after its first part,
 /// and before its last.
 const STOPS: &str = "\
 1 ~> OutOfProfile@1:1
@@ -485,7 +485,7 @@ fn lines(rt: HostRuntime) -> Result<(), Fail> {
 }
 
 /// What stands before a piece that is repeated, the piece, what stands in the middle, the piece
-/// that stands as often behind it, and the end.
+/// that stands as often after it, and the end.
 type Pieces = [&'static [u8]; 5];
 
 fn repeated(alloc: Global, pieces: &Pieces, times: u32) -> Result<Vec<u8>, AllocError> {
@@ -829,7 +829,7 @@ fn limits_of_marks(rt: HostRuntime) -> Result<(), Fail> {
     Ok(())
 }
 
-/// Texts with 200 pieces, as many as there may be, and the first fault at a token behind them.
+/// Texts with 200 pieces, as many as there may be, and the first fault at a token after them.
 const BEHIND: [(Pieces, &str); 12] = [
     (
         [b"t: THEORY BEGIN\n", b"a, ", b"a", b"", b""],

@@ -2,11 +2,11 @@
 
 ghost use Rattle.std.specs.Prelude.{◌≡◌, bytes_eq};
 ghost use Rattle.pvs_parser.specs.Descent.{Gives};
-ghost use Rattle.pvs_parser.specs.Language.{bounded};
+ghost use Rattle.pvs_parser.specs.Language.{language_limit};
 ghost use Rattle.pvs_syntax.specs.Words.{spelling};
 ghost use Rattle.pvs_parser.specs.UnitDescent as spec;
 
-use crate::declarations::{Decls, Part, declarations};
+use crate::declarations::{Decls, TheoryPart, declarations};
 use crate::failure::{Failure, Reason, Stop};
 use crate::formals::formal_part;
 use crate::terminal::{Terminal, TerminalKind};
@@ -17,22 +17,22 @@ use std::alloc::Global;
 
 /// The assuming part of a theory, if it has one.
 fn assuming_part(alloc: Global, tokens: &[Terminal]) -> Decls<'_>
-    ensures { Gives (λ p. (p.0, p.1.now)) result (spec.assuming_part bounded tokens.now) }
+    ensures { Gives (λ p. (p.0, p.1.now)) result (spec.assuming_part language_limit tokens.now) }
 {
     let Some(rest) = after(TerminalKind::Assuming, tokens) else {
         return Ok((Items::new(alloc), tokens));
     };
-    let (assuming, rest) = declarations(alloc, Part::Assuming, rest)?;
+    let (assuming, rest) = declarations(alloc, TheoryPart::Assuming, rest)?;
     let rest = expect(TerminalKind::EndAssuming, rest)?;
     Ok((assuming, rest))
 }
 
-/// The name and the formals of a theory, and the tokens behind BEGIN.
+/// The name and the formals of a theory, and the tokens after BEGIN.
 fn heading(
     alloc: Global,
     tokens: &[Terminal],
 ) -> Result<(Word, Items<Formal>, &[Terminal]), Failure>
-    ensures { Gives (λ p. (p.0, p.1, p.2.now)) result (spec.heading bounded tokens.now) }
+    ensures { Gives (λ p. (p.0, p.1, p.2.now)) result (spec.heading language_limit tokens.now) }
 {
     let (name, rest) = id(tokens)?;
     let (formals, rest) = formal_part(alloc, rest)?;
@@ -75,11 +75,11 @@ pub fn theory<'a>(
     text: &[u8],
     tokens: &'a [Terminal],
 ) -> Result<(Theory, &'a [Terminal]), Failure>
-    ensures { Gives (λ p. (p.0, p.1.now)) result (spec.theory bounded text.now tokens.now) }
+    ensures { Gives (λ p. (p.0, p.1.now)) result (spec.theory language_limit text.now tokens.now) }
 {
     let (name, formals, rest) = heading(alloc, tokens)?;
     let (assuming, rest) = assuming_part(alloc, rest)?;
-    let (decls, rest) = declarations(alloc, Part::Body, rest)?;
+    let (decls, rest) = declarations(alloc, TheoryPart::Body, rest)?;
     let (end, rest) = ending(text, name, rest)?;
     let theory = Theory {
         name,

@@ -103,7 +103,7 @@ pub fn compares(tokens: &[Terminal]) -> Option<(InfixWord, &[Terminal])>
 
 /// The identifier and the colon that come next, and the tokens after them.
 pub fn labels(tokens: &[Terminal]) -> Option<(Word, &[Terminal])>
-    ensures { option_map (λ p. (p.0, p.1.now)) result ≡ spec.labels tokens.now }
+    ensures { option_map (λ p. (p.0, p.1.now)) result ≡ spec.label tokens.now }
 {
     let [token, rest @ ..] = tokens else {
         return None;
@@ -158,9 +158,9 @@ pub fn comes_type_actual(tokens: &[Terminal]) -> bool
     matches!(tokens, [token, ..] if begins_type(token.kind))
 }
 
-/// A tree behind which no token is left.
+/// A tree after which no token is left.
 pub fn ended<A: Drop>(tree: A, tokens: &[Terminal]) -> Result<A, Failure>
-    ensures { Gives (λ x. x) result (spec.ended tree tokens.now) }
+    ensures { Gives (λ x. x) result (spec.at_end tree tokens.now) }
 {
     if tokens.is_empty() {
         Ok(tree)

@@ -18,7 +18,7 @@ use std::alloc::{AllocError, Global};
 
 /// A name that nothing qualifies.
 pub fn named(word: Word) -> NameExpr
-    ensures { result ≡ language.named word }
+    ensures { result ≡ language.simple_name word }
 {
     NameExpr {
         qualifier: None,
@@ -26,7 +26,7 @@ pub fn named(word: Word) -> NameExpr
     }
 }
 
-/// The identifier behind the dot, in the instance that `theory` and `actuals` are, and the tokens
+/// The identifier after the dot, in the instance that `theory` and `actuals` are, and the tokens
 /// after it.
 pub fn name_of(
     theory: Word,
@@ -47,13 +47,13 @@ pub fn name_of(
 }
 
 pub fn untyped(word: Word) -> Binding
-    ensures { result ≡ language.untyped word }
+    ensures { result ≡ language.untyped_binding word }
 {
     Binding { word, ty: None }
 }
 
 pub fn typed(word: Word, ty: TypeExpr) -> Binding
-    ensures { result ≡ language.typed word ty }
+    ensures { result ≡ language.typed_binding word ty }
 {
     Binding { word, ty: Some(ty) }
 }
@@ -74,7 +74,7 @@ pub fn equation(word: Word, ty: Option<TypeExpr>, value: Expr) -> LetPart
 
 /// The empty word before a token.
 pub fn empty(word: Word) -> Word
-    ensures { result ≡ language.empty word }
+    ensures { result ≡ language.empty_word word }
 {
     Word {
         start: word.start,
@@ -93,7 +93,7 @@ pub fn infix(alloc: Global, word: InfixWord, left: Expr, right: Expr) -> Result<
 
 /// Expressions in parentheses.
 pub fn grouped(alloc: Global, pos: Pos, mut exprs: Items<Expr>) -> Result<Expr, AllocError>
-    ensures { IfOk result (λ x. x ≡ language.grouped pos exprs) }
+    ensures { IfOk result (λ x. x ≡ language.group_tree pos exprs) }
 {
     if exprs.len() != 1 {
         return Ok(Expr::TupleTerm(exprs, pos));
@@ -102,14 +102,14 @@ pub fn grouped(alloc: Global, pos: Pos, mut exprs: Items<Expr>) -> Result<Expr, 
     Ok(Expr::Paren(inner, pos))
 }
 
-/// The projection behind a backquote.
+/// The projection after a backquote.
 pub fn project(
     alloc: Global,
     operand: Expr,
     nesting: Nesting,
     tokens: &[Terminal],
 ) -> Read<'_, Expr>
-    ensures { Gives (λ p. (p.0, p.1, p.2.now)) result (spec.project language.bounded operand nesting tokens.now) }
+    ensures { Gives (λ p. (p.0, p.1, p.2.now)) result (spec.project language.language_limit operand nesting tokens.now) }
 {
     let nesting = nesting.mark(tokens)?;
     let (word, rest) = number(tokens)?;
@@ -117,7 +117,7 @@ pub fn project(
     Ok((Expr::Project(operand, word), nesting, rest))
 }
 
-/// The tuple type of these components, behind them. `word` is its bracket.
+/// The tuple type of these components, after them. `word` is its bracket.
 pub fn tuple_type(
     nesting: Nesting,
     word: Word,

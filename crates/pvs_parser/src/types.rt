@@ -3,7 +3,7 @@
 ghost use Rattle.std.specs.Prelude.{◌≡◌};
 ghost use Rattle.pvs_parser.specs.Descent.{Gives};
 ghost use Rattle.pvs_parser.specs.Descent as spec;
-ghost use Rattle.pvs_parser.specs.Nests.{Nests, below};
+ghost use Rattle.pvs_parser.specs.Nests.{Nests, bounded_reader};
 
 use crate::descent::{Descent, Read};
 use crate::failure::Failure;
@@ -29,7 +29,7 @@ where
         tokens: &'a [Terminal],
     ) -> Read<'a, TypeExpr>
         requires { Nests self.now.room (E.pre self.now.expr) (E.post self.now.expr) (T.pre self.now.ty) (T.post self.now.ty) }
-        ensures { Gives (λ p. (p.0, p.1, p.2.now)) result (spec.pred_type_with (below self.now.room) nesting word tokens.now) }
+        ensures { Gives (λ p. (p.0, p.1, p.2.now)) result (spec.pred_type_with (bounded_reader self.now.room) nesting word tokens.now) }
     {
         let inner = nesting.enter(tokens)?;
         let (test, _, rest) = self.expr(inner, tokens)?;
@@ -45,7 +45,7 @@ where
         tokens: &'a [Terminal],
     ) -> Result<(Word, TypeExpr, Nesting, &'a [Terminal]), Failure>
         requires { Nests self.now.room (E.pre self.now.expr) (E.post self.now.expr) (T.pre self.now.ty) (T.post self.now.ty) }
-        ensures { Gives (λ p. (p.0, p.1, p.2, p.3.now)) result (spec.base_with (below self.now.room) nesting tokens.now) }
+        ensures { Gives (λ p. (p.0, p.1, p.2, p.3.now)) result (spec.base_with (bounded_reader self.now.room) nesting tokens.now) }
     {
         let (word, rest) = id(tokens)?;
         let rest = expect(TerminalKind::Colon, rest)?;
@@ -62,7 +62,7 @@ where
         tokens: &'a [Terminal],
     ) -> Read<'a, TypeExpr>
         requires { Nests self.now.room (E.pre self.now.expr) (E.post self.now.expr) (T.pre self.now.ty) (T.post self.now.ty) }
-        ensures { Gives (λ p. (p.0, p.1, p.2.now)) result (spec.sub_type_with (below self.now.room) nesting word tokens.now) }
+        ensures { Gives (λ p. (p.0, p.1, p.2.now)) result (spec.sub_type_with (bounded_reader self.now.room) nesting word tokens.now) }
     {
         let inner = nesting.enter(tokens)?;
         let (variable, base, inner, rest) = self.base(inner, tokens)?;
@@ -77,7 +77,7 @@ where
         ))
     }
 
-    /// The range of a function type, behind the arrow. `inner` is the nesting there, and `nesting` that
+    /// The range of a function type, after the arrow. `inner` is the nesting there, and `nesting` that
     /// outside the bracket.
     fn fun_type<'a>(
         &self,
@@ -88,7 +88,7 @@ where
         tokens: &'a [Terminal],
     ) -> Read<'a, TypeExpr>
         requires { Nests self.now.room (E.pre self.now.expr) (E.post self.now.expr) (T.pre self.now.ty) (T.post self.now.ty) }
-        ensures { Gives (λ p. (p.0, p.1, p.2.now)) result (spec.fun_type_with (below self.now.room) nesting word domain inner tokens.now) }
+        ensures { Gives (λ p. (p.0, p.1, p.2.now)) result (spec.fun_type_with (bounded_reader self.now.room) nesting word domain inner tokens.now) }
     {
         let (range, _, rest) = self.type_expr(inner, tokens)?;
         let rest = expect(TerminalKind::CloseBracket, rest)?;
@@ -104,7 +104,7 @@ where
         tokens: &'a [Terminal],
     ) -> Read<'a, TypeExpr>
         requires { Nests self.now.room (E.pre self.now.expr) (E.post self.now.expr) (T.pre self.now.ty) (T.post self.now.ty) }
-        ensures { Gives (λ p. (p.0, p.1, p.2.now)) result (spec.bracket_type_with (below self.now.room) nesting word tokens.now) }
+        ensures { Gives (λ p. (p.0, p.1, p.2.now)) result (spec.bracket_type_with (bounded_reader self.now.room) nesting word tokens.now) }
     {
         let inner = nesting.enter(tokens)?;
         let (components, inner, rest) = self.components(inner, tokens)?;
@@ -121,7 +121,7 @@ where
         tokens: &'a [Terminal],
     ) -> Read<'a, TypeExpr>
         requires { Nests self.now.room (E.pre self.now.expr) (E.post self.now.expr) (T.pre self.now.ty) (T.post self.now.ty) }
-        ensures { Gives (λ p. (p.0, p.1, p.2.now)) result (spec.name_type_with (below self.now.room) nesting word tokens.now) }
+        ensures { Gives (λ p. (p.0, p.1, p.2.now)) result (spec.name_type_with (bounded_reader self.now.room) nesting word tokens.now) }
     {
         let (name, rest) = self.name_after(word, nesting, tokens)?;
         Ok((TypeExpr::NameType(name), nesting, rest))
@@ -130,7 +130,7 @@ where
     /// A type.
     pub fn type_rule<'a>(&self, nesting: Nesting, tokens: &'a [Terminal]) -> Read<'a, TypeExpr>
         requires { Nests self.now.room (E.pre self.now.expr) (E.post self.now.expr) (T.pre self.now.ty) (T.post self.now.ty) }
-        ensures { Gives (λ p. (p.0, p.1, p.2.now)) result (spec.type_with (below self.now.room) nesting tokens.now) }
+        ensures { Gives (λ p. (p.0, p.1, p.2.now)) result (spec.type_with (bounded_reader self.now.room) nesting tokens.now) }
     {
         let [token, rest @ ..] = tokens else {
             return Err(stop(tokens));

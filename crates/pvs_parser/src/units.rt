@@ -2,7 +2,7 @@
 
 ghost use Rattle.std.specs.Prelude.{◌≡◌};
 ghost use Rattle.pvs_parser.specs.Descent.{Gives};
-ghost use Rattle.pvs_parser.specs.Language.{bounded};
+ghost use Rattle.pvs_parser.specs.Language.{language_limit};
 ghost use Rattle.pvs_parser.specs.UnitDescent as spec;
 
 use crate::failure::Failure;
@@ -20,7 +20,7 @@ fn item<'a>(
     text: &[u8],
     tokens: &'a [Terminal],
 ) -> Result<(Item, &'a [Terminal]), Failure>
-    ensures { Gives (λ p. (p.0, p.1.now)) result (spec.one_item bounded text.now tokens.now) }
+    ensures { Gives (λ p. (p.0, p.1.now)) result (spec.one_item language_limit text.now tokens.now) }
 {
     match after(TerminalKind::Open, tokens) {
         Some(rest) => {
@@ -37,7 +37,7 @@ fn item<'a>(
 /// The tree of all the tokens of a text.
 #[tactic(auto, using(crate::proofs::UnitTurns::unit_init, crate::proofs::UnitTurns::unit_end, crate::proofs::UnitTurns::unit_err, crate::proofs::UnitTurns::unit_next, crate::proofs::UnitTurns::unit_full))]
 pub fn unit(alloc: Global, text: &[u8], tokens: &[Terminal]) -> Result<Unit, Failure>
-    ensures { Gives (λ u. u) result (spec.unit bounded text.now tokens.now) }
+    ensures { Gives (λ u. u) result (spec.unit language_limit text.now tokens.now) }
 {
     let mut items = Items::new(alloc);
     let mut rest = tokens;

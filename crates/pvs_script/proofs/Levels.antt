@@ -1,4 +1,4 @@
--- How many parentheses are open behind the tokens.
+-- How many parentheses are open after the tokens.
 use Rattle.std.proofs.Common.{◌≡◌, ◌∙◌, ℕ, suc, ◌+◌, ◌<◌, ◌≤◌, cond, List, [], ◌∷◌, ◌++◌, length, Some, refl, sym, ap, subst, append_assoc, append-nil, length-append, arith}
 use Rattle.std.specs.Prelude.{count_by}
 use Rattle.std.proofs.lemmas.List.Sums.{sum_by-append}
@@ -11,10 +11,10 @@ use Rattle.pvs_script.specs.declared.tree.Script.{Script}
 use Rattle.pvs_script.specs.declared.state.State.{State}
 use Rattle.pvs_script.specs.declared.state.State.TheVariants as state
 use Rattle.pvs_script.specs.declared.state.OpenTree.{OpenTree}
-use Rattle.pvs_script.specs.declared.state.Part.{Part}
-use Rattle.pvs_script.specs.declared.state.Part.TheVariants as part
+use Rattle.pvs_script.specs.declared.state.Prefix.{Prefix}
+use Rattle.pvs_script.specs.declared.state.Prefix.TheVariants as prefix
 use Rattle.pvs_script.specs.Grammar.{opens, closes, level}
-use Rattle.pvs_script.specs.States.{script_of, behind_first, last_of, ended, closed, in_step, in_tree, behind_nothing, behind_opened, behind_if, behind_minus, behind_step, step_start, step_inside, step, part_depth, depth}
+use Rattle.pvs_script.specs.States.{script_of, with_first, last_of, state_after, closed, in_step, in_tree, after_whole, after_open, after_if, after_minus, after_step, first_state, next_inside, next_state, prefix_depth, depth}
 use Rattle.pvs_script.proofs.Runs.{Tokens, run, bound, some_same}
 
 -- what a token of a sort makes of a number of open parentheses
@@ -31,15 +31,15 @@ Moves sort.Other n m = m ≡ n
 leads : (c : Sort) (n : ℕ) (s r : State) → Some s ≡ Some r → Moves c n (depth s) → Moves c n (depth r)
 leads c n s r e m = subst (λ z. Moves c n (depth z)) (some_same s r e) m
 
-length_front : (ts : List OpenTree) (t : OpenTree) → length (behind_first t (last_of ts)).0 ≡ length ts
-length_front [] t = refl
-length_front (u ∷ us) t = ap suc (length_front us u)
+length_last_of : (ts : List OpenTree) (t : OpenTree) → length (with_first t (last_of ts)).0 ≡ length ts
+length_last_of [] t = refl
+length_last_of (u ∷ us) t = ap suc (length_last_of us u)
 
-depth_ended : (outer : List OpenTree) (x : Script) → depth (ended outer x) ≡ length outer
+depth_ended : (outer : List OpenTree) (x : Script) → depth (state_after outer x) ≡ length outer
 depth_ended [] x = refl
-depth_ended (t ∷ ts) x = omega (arith, length_front ts t)
+depth_ended (t ∷ ts) x = omega (arith, length_last_of ts t)
 
-start_moves : (c : Sort) (r : State) → step_start c ≡ Some r → Moves c 0 (depth r)
+start_moves : (c : Sort) (r : State) → first_state c ≡ Some r → Moves c 0 (depth r)
 start_moves sort.Open r e = leads sort.Open 0 _ r e refl
 start_moves _ r e = cc
 
@@ -47,12 +47,12 @@ closed_moves : (outer : List OpenTree) (tree : OpenTree) (ss : List Step) (r : S
 closed_moves outer tree [] r e = cc
 closed_moves outer tree (s ∷ ss) r e = leads sort.Close (length outer + 1 + 0) _ r e (omega (arith, depth_ended outer (script_of tree)))
 
-nothing_moves : (t : Lexeme) (outer : List OpenTree) (tree : OpenTree) (c : Sort) (r : State) → behind_nothing t outer tree c ≡ Some r → Moves c (length outer + 1 + 0) (depth r)
+nothing_moves : (t : Lexeme) (outer : List OpenTree) (tree : OpenTree) (c : Sort) (r : State) → after_whole t outer tree c ≡ Some r → Moves c (length outer + 1 + 0) (depth r)
 nothing_moves t outer tree sort.Open r e = leads sort.Open (length outer + 1 + 0) _ r e (omega arith)
 nothing_moves t outer tree sort.Close r e = closed_moves outer tree tree.steps r e
 nothing_moves t outer tree _ r e = cc
 
-in_step_moves : (outer : List OpenTree) (tree : OpenTree) (p : Part) (xs : List Script) (r : State) → part_depth p ≡ 1 → in_step outer tree p xs ≡ Some r → depth r ≡ length outer + 1 + 1
+in_step_moves : (outer : List OpenTree) (tree : OpenTree) (p : Prefix) (xs : List Script) (r : State) → prefix_depth p ≡ 1 → in_step outer tree p xs ≡ Some r → depth r ≡ length outer + 1 + 1
 in_step_moves outer tree p [] r one e = sym (ap depth (some_same _ r e)) ∙ ap (λ n. length outer + 1 + n) one
 in_step_moves outer tree p (x ∷ xs) r one e = cc
 
@@ -60,35 +60,35 @@ in_tree_moves : (outer : List OpenTree) (tree : OpenTree) (at : Pos) (ss : List 
 in_tree_moves outer tree at [] r e = cc
 in_tree_moves outer tree at (s ∷ ss) r e = sym (ap depth (some_same _ r e)) ∙ omega (arith, length-append outer (tree ∷ []))
 
-opened_moves : (t : Lexeme) (outer : List OpenTree) (tree : OpenTree) (at : Pos) (c : Sort) (r : State) → behind_opened t outer tree at c ≡ Some r → Moves c (length outer + 1 + 1) (depth r)
+opened_moves : (t : Lexeme) (outer : List OpenTree) (tree : OpenTree) (at : Pos) (c : Sort) (r : State) → after_open t outer tree at c ≡ Some r → Moves c (length outer + 1 + 1) (depth r)
 opened_moves t outer tree at sort.Axiom r e = in_step_moves outer tree _ tree.trees r refl e
 opened_moves t outer tree at sort.If r e = in_step_moves outer tree _ tree.trees r refl e
 opened_moves t outer tree at sort.Open r e = in_tree_moves outer tree t.pos tree.steps r e
 opened_moves t outer tree at _ r e = cc
 
-if_moves : (t : Lexeme) (outer : List OpenTree) (tree : OpenTree) (at : Pos) (c : Sort) (r : State) → behind_if t outer tree at c ≡ Some r → Moves c (length outer + 1 + 1) (depth r)
+if_moves : (t : Lexeme) (outer : List OpenTree) (tree : OpenTree) (at : Pos) (c : Sort) (r : State) → after_if t outer tree at c ≡ Some r → Moves c (length outer + 1 + 1) (depth r)
 if_moves t outer tree at sort.Number r e = leads sort.Number (length outer + 1 + 1) _ r e refl
 if_moves t outer tree at sort.Minus r e = leads sort.Minus (length outer + 1 + 1) _ r e refl
 if_moves t outer tree at _ r e = cc
 
-minus_moves : (t : Lexeme) (outer : List OpenTree) (tree : OpenTree) (at : Pos) (c : Sort) (r : State) → behind_minus t outer tree at c ≡ Some r → Moves c (length outer + 1 + 1) (depth r)
+minus_moves : (t : Lexeme) (outer : List OpenTree) (tree : OpenTree) (at : Pos) (c : Sort) (r : State) → after_minus t outer tree at c ≡ Some r → Moves c (length outer + 1 + 1) (depth r)
 minus_moves t outer tree at sort.Number r e = leads sort.Number (length outer + 1 + 1) _ r e refl
 minus_moves t outer tree at _ r e = cc
 
-step_moves : (outer : List OpenTree) (tree : OpenTree) (s : Step) (c : Sort) (r : State) → behind_step outer tree s c ≡ Some r → Moves c (length outer + 1 + 1) (depth r)
+step_moves : (outer : List OpenTree) (tree : OpenTree) (s : Step) (c : Sort) (r : State) → after_step outer tree s c ≡ Some r → Moves c (length outer + 1 + 1) (depth r)
 step_moves outer tree s sort.Close r e = leads sort.Close (length outer + 1 + 1) _ r e (omega arith)
 step_moves outer tree s _ r e = cc
 
-inside_moves : (t : Lexeme) (outer : List OpenTree) (tree : OpenTree) (p : Part) (r : State) → step_inside t outer tree p ≡ Some r → Moves t.sort (length outer + 1 + part_depth p) (depth r)
-inside_moves t outer tree part.Nothing r e = nothing_moves t outer tree t.sort r e
-inside_moves t outer tree (part.Opened at) r e = opened_moves t outer tree at t.sort r e
-inside_moves t outer tree (part.If at) r e = if_moves t outer tree at t.sort r e
-inside_moves t outer tree (part.Minus at) r e = minus_moves t outer tree at t.sort r e
-inside_moves t outer tree (part.Step s) r e = step_moves outer tree s t.sort r e
+inside_moves : (t : Lexeme) (outer : List OpenTree) (tree : OpenTree) (p : Prefix) (r : State) → next_inside t outer tree p ≡ Some r → Moves t.sort (length outer + 1 + prefix_depth p) (depth r)
+inside_moves t outer tree prefix.Nothing r e = nothing_moves t outer tree t.sort r e
+inside_moves t outer tree (prefix.Opened at) r e = opened_moves t outer tree at t.sort r e
+inside_moves t outer tree (prefix.If at) r e = if_moves t outer tree at t.sort r e
+inside_moves t outer tree (prefix.Minus at) r e = minus_moves t outer tree at t.sort r e
+inside_moves t outer tree (prefix.Step s) r e = step_moves outer tree s t.sort r e
 
-pub token_moves : (s : State) (t : Lexeme) (r : State) → step s t ≡ Some r → Moves t.sort (depth s) (depth r)
+pub token_moves : (s : State) (t : Lexeme) (r : State) → next_state s t ≡ Some r → Moves t.sort (depth s) (depth r)
 token_moves state.Start t r e = start_moves t.sort r e
-token_moves (state.Inside nest) t r e = inside_moves t nest.outer nest.tree nest.part r e
+token_moves (state.Inside nest) t r e = inside_moves t nest.outer nest.tree nest.prefix r e
 token_moves (state.Whole x) t r e = cc
 
 -- ---- counts of tokens
@@ -117,7 +117,7 @@ counted sort.Other a b n m moves e = omega (arith, moves, e)
 run_counts : (us ts : Tokens) (s r : State) → ups ts ≡ downs ts + depth s → run s us ≡ Some r → ups (ts ++ us) ≡ downs (ts ++ us) + depth r
 run_counts [] ts s r e f = subst (λ z. ups z ≡ downs z + depth r) (sym (append-nil ts)) (subst (λ z. ups ts ≡ downs ts + depth z) (some_same s r f) e)
 run_counts (t ∷ us) ts s r e f =
-    let b = bound (step s t) us r f in
+    let b = bound (next_state s t) us r f in
     let here : ups (ts ++ t ∷ []) ≡ downs (ts ++ t ∷ []) + depth b.0 =
     ups-push ts t ∙ counted t.sort (ups ts) (downs ts) (depth s) (depth b.0) (token_moves s t b.0 b.1) e ∙ ap (λ n. n + depth b.0) (sym (downs-push ts t)) in
     subst (λ z. ups z ≡ downs z + depth r) (append_assoc ts (t ∷ []) us) (run_counts us (ts ++ t ∷ []) b.0 r here b.2)

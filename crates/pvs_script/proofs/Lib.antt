@@ -2,9 +2,9 @@ pub mod Decimal
 pub mod Stacks
 pub mod Turns
 pub mod Runs
-pub mod Taken
-pub mod Meant
+pub mod Completeness
+pub mod Meanings
 pub mod Levels
-pub mod Fronts
+pub mod Prefixes
 pub mod Verdicts
 pub mod CallerLemmas

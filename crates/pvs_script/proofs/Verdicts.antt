@@ -11,21 +11,21 @@ use Rattle.pvs_script.specs.declared.lexeme.Lexeme.{Lexeme}
 use Rattle.pvs_script.specs.declared.tree.Script.{Script}
 use Rattle.pvs_script.specs.declared.state.State.{State}
 use Rattle.pvs_script.specs.declared.state.State.TheVariants as state
-use Rattle.pvs_script.specs.Tokens.{lexed, lexemes, end_place}
+use Rattle.pvs_script.specs.Tokens.{script_tokens, lexemes, end_place}
 use Rattle.pvs_script.specs.Grammar.{DerivesScript, BeginsScript, IsShallow, IsScript}
-use Rattle.pvs_script.specs.Faults.{AllMayBegin, IsRefused, IsFirstFault}
+use Rattle.pvs_script.specs.Faults.{AllMayBegin, IsRefused, IsFirstFault, IsScriptAnswer}
 use Rattle.pvs_script.specs.Reading.{Gives, fault_at, take_token, take_tokens, whole, ending, read_span, script_of}
 use Rattle.pvs_base.specs.Answers.{◌>>=◌}
 use Rattle.pvs_script.proofs.Runs.{Tokens, bind, run, run-append, some_same}
-use Rattle.pvs_script.proofs.Taken.{whole_taken}
-use Rattle.pvs_script.proofs.Meant.{means, means_begins, means_derived}
-use Rattle.pvs_script.proofs.Fronts.{split_bind, taken-append, taken_runs, may_begin, all_may_begin, stops, refuses, refused_not, one_code, all_taken}
+use Rattle.pvs_script.proofs.Completeness.{whole_taken}
+use Rattle.pvs_script.proofs.Meanings.{means, means_begins, means_derived}
+use Rattle.pvs_script.proofs.Prefixes.{split_bind, taken-append, taken_runs, may_begin, all_may_begin, stops, refuses, refused_not, one_code, all_taken}
 
 -- ---- tokens that are read to the end
 
 -- what is read of a whole span
 abbrev outcome : List ℕ → Proof → State → Result Script Fault
-outcome text proof s = ending (end_place text proof) (lexed text proof).fault s
+outcome text proof s = ending (end_place text proof) (script_tokens text proof).fault s
 
 script_is : (text : List ℕ) (proof : Proof) → script_of text proof ≡ (take_tokens state.Start (lexemes text proof) >>= outcome text proof)
 unfolding read_span
@@ -52,27 +52,27 @@ ending_ok : (end : Pos) (o : Option Fault) (s : State) (x : Script) → ending e
 ending_ok end None s x e = (refl, whole_ok end s x e)
 ending_ok end (Some fault) s x e = cc
 
-front_shallow : (ts : Tokens) → AllMayBegin ts → IsShallow ts
-front_shallow ts all us vs is = (all us vs is).shallow
+prefix_shallow : (ts : Tokens) → AllMayBegin ts → IsShallow ts
+prefix_shallow ts all us vs is = (all us vs is).shallow
 
 pub found : (text : List ℕ) (proof : Proof) (x : Script) → script_of text proof ≡ Ok x → IsScript text proof x
 found text proof x e =
     let ts = lexemes text proof in
     let b = split_bind (take_tokens state.Start ts) (outcome text proof) x (sym (script_is text proof) ∙ e) in
-    let f = ending_ok (end_place text proof) (lexed text proof).fault b.0 x b.2 in
+    let f = ending_ok (end_place text proof) (script_tokens text proof).fault b.0 x b.2 in
     record {
       faultless = f.0;
       derives = derived ts x (b.1 ∙ ap Ok f.1);
-      shallow = front_shallow ts (all_may_begin ts b.0 b.1);
+      shallow = prefix_shallow ts (all_may_begin ts b.0 b.1);
     }
 
 -- what is before the rest of a script begins one
-front_by : (us vs : Tokens) (o : Option State) (r : State) → run state.Start us ≡ o → bind o (λ q. run q vs) ≡ Some r → BeginsScript us
-front_by us vs None r is e = cc
-front_by us vs (Some q) r is e = means_begins q us (means us q is)
+prefix_by : (us vs : Tokens) (o : Option State) (r : State) → run state.Start us ≡ o → bind o (λ q. run q vs) ≡ Some r → BeginsScript us
+prefix_by us vs None r is e = cc
+prefix_by us vs (Some q) r is e = means_begins q us (means us q is)
 
-front_begins : (ts us vs : Tokens) (x : Script) → DerivesScript ts x → ts ≡ us ++ vs → BeginsScript us
-front_begins ts us vs x d is = front_by us vs (run state.Start us) (state.Whole x) refl (sym (run-append state.Start us vs) ∙ ap (run state.Start) (sym is) ∙ whole_taken ts x d)
+prefix_begins : (ts us vs : Tokens) (x : Script) → DerivesScript ts x → ts ≡ us ++ vs → BeginsScript us
+prefix_begins ts us vs x d is = prefix_by us vs (run state.Start us) (state.Whole x) refl (sym (run-append state.Start us vs) ∙ ap (run state.Start) (sym is) ∙ whole_taken ts x d)
 
 -- at the end of the tokens
 script_ends : (text : List ℕ) (proof : Proof) (s : State) → take_tokens state.Start (lexemes text proof) ≡ Ok s → script_of text proof ≡ outcome text proof s
@@ -81,7 +81,7 @@ script_ends text proof s e = script_is text proof ∙ ap (λ o. o >>= outcome te
 pub only : (text : List ℕ) (proof : Proof) (x : Script) → IsScript text proof x → script_of text proof ≡ Ok x
 only text proof x s =
     let ts = lexemes text proof in
-    let t = all_taken ts (λ us vs is. record { begins = front_begins ts us vs x s.derives is; shallow = s.shallow us vs is }) in
+    let t = all_taken ts (λ us vs is. record { begins = prefix_begins ts us vs x s.derives is; shallow = s.shallow us vs is }) in
     script_ends text proof t.0 t.1
     ∙ ap (λ o. ending (end_place text proof) o t.0) s.faultless
     ∙ ap (whole (end_place text proof)) (ends_whole ts t.0 x t.1 s.derives)
@@ -89,7 +89,7 @@ only text proof x s =
 -- ---- the first fault
 
 -- the end of the span, where the tokens are no script
-end_fault : (text : List ℕ) (proof : Proof) (s : State) (fault : Fault) → take_tokens state.Start (lexemes text proof) ≡ Ok s → (lexed text proof).fault ≡ None
+end_fault : (text : List ℕ) (proof : Proof) (s : State) (fault : Fault) → take_tokens state.Start (lexemes text proof) ≡ Ok s → (script_tokens text proof).fault ≡ None
     → whole (end_place text proof) s ≡ Err fault → IsFirstFault text proof fault
 end_fault text proof s fault e none w =
     let ts = lexemes text proof in
@@ -97,7 +97,7 @@ end_fault text proof s fault e none w =
     let here : IsFirstFault text proof (fault_at (end_place text proof) OutOfProfile) = IsFirstFault.end (all_may_begin ts s e) none nothing in
     subst (IsFirstFault text proof) (whole_err (end_place text proof) s fault w) here
 
-ending_fault : (text : List ℕ) (proof : Proof) (s : State) (fault : Fault) (o : Option Fault) → take_tokens state.Start (lexemes text proof) ≡ Ok s → (lexed text proof).fault ≡ o
+ending_fault : (text : List ℕ) (proof : Proof) (s : State) (fault : Fault) (o : Option Fault) → take_tokens state.Start (lexemes text proof) ≡ Ok s → (script_tokens text proof).fault ≡ o
     → ending (end_place text proof) o s ≡ Err fault → IsFirstFault text proof fault
 ending_fault text proof s fault None e is f = end_fault text proof s fault e is f
 ending_fault text proof s fault (Some other) e is f = let same : other ≡ fault = cc in IsFirstFault.lexical fault (all_may_begin (lexemes text proof) s e) (is ∙ ap Some same)
@@ -109,7 +109,7 @@ token_fault text proof fault e =
     subst (IsFirstFault text proof) (sym r.same) (IsFirstFault.token s.before s.rest s.token r.code s.split (all_may_begin s.before s.state s.taken) r.refused)
 
 fault_by : (text : List ℕ) (proof : Proof) (fault : Fault) (o : Result State Fault) → take_tokens state.Start (lexemes text proof) ≡ o → (o >>= outcome text proof) ≡ Err fault → IsFirstFault text proof fault
-fault_by text proof fault (Ok s) is e = ending_fault text proof s fault (lexed text proof).fault is refl e
+fault_by text proof fault (Ok s) is e = ending_fault text proof s fault (script_tokens text proof).fault is refl e
 fault_by text proof fault (Err other) is e = let same : other ≡ fault = cc in token_fault text proof fault (is ∙ ap Err same)
 
 pub is_first : (text : List ℕ) (proof : Proof) (fault : Fault) → script_of text proof ≡ Err fault → IsFirstFault text proof fault
@@ -149,8 +149,22 @@ first text proof _ (IsFirstFault.end all is none) =
     let s = all_taken (lexemes text proof) all in
     script_ends text proof s.0 s.1 ∙ ap (λ o. ending (end_place text proof) o s.0) is ∙ none_whole text proof s.0 s.1 none
 
-pub one_fault : (text : List ℕ) (proof : Proof) (f g : Fault) → IsFirstFault text proof f → IsFirstFault text proof g → f ≡ g
-one_fault text proof f g a b = let e = first text proof f a in let h = first text proof g b in cc
+-- ---- one answer
+
+answer_is : (text : List ℕ) (proof : Proof) (a : Result Script Fault) → IsScriptAnswer text proof a → script_of text proof ≡ a
+answer_is text proof (Ok x) h = only text proof x h
+answer_is text proof (Err f) h = first text proof f h
+
+pub one_answer : (text : List ℕ) (proof : Proof) (a b : Result Script Fault) → IsScriptAnswer text proof a → IsScriptAnswer text proof b → a ≡ b
+one_answer text proof a b h k = sym (answer_is text proof a h) ∙ answer_is text proof b k
+
+answer_by : (text : List ℕ) (proof : Proof) (a : Result Script Fault) → script_of text proof ≡ a → IsScriptAnswer text proof a
+answer_by text proof (Ok x) e = found text proof x e
+answer_by text proof (Err f) e = is_first text proof f e
+
+-- what reading gives is the answer
+pub script_answer : (text : List ℕ) (proof : Proof) → IsScriptAnswer text proof (script_of text proof)
+script_answer text proof = answer_by text proof (script_of text proof) refl
 
 -- ---- what a call answers, unless memory runs out
 

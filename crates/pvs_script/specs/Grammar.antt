@@ -8,7 +8,7 @@ use Rattle.pvs_script.specs.declared.tree.Rule.TheVariants as rule
 use Rattle.pvs_script.specs.declared.tree.Step.{Step}
 use Rattle.pvs_script.specs.declared.tree.Script.{Script}
 use Rattle.pvs_script.specs.declared.tree.Script.TheViews.{roll-Script}
-use Rattle.pvs_script.specs.Tokens.{lexed, lexemes}
+use Rattle.pvs_script.specs.Tokens.{script_tokens, lexemes}
 
 -- a token of this sort
 abbrev pub Is : Sort → Lexeme → Type 0
@@ -17,9 +17,9 @@ Is s t = t.sort ≡ s
 -- ---- What tokens are a step, or a script.
 
 -- the number of an antecedent
-abbrev pub negated : ℕ → ℤ
-negated zero = pos 0
-negated (suc n) = negsuc n
+abbrev pub antecedent_number : ℕ → ℤ
+antecedent_number zero = pos 0
+antecedent_number (suc n) = negsuc n
 
 pub data DerivesStep : List Lexeme → Step → Type 0 where
   -- step = "(" axiom ")"
@@ -30,7 +30,7 @@ pub data DerivesStep : List Lexeme → Step → Type 0 where
       → DerivesStep (t ∷ u ∷ v ∷ w ∷ []) (record { rule = rule.If (pos v.number); pos = t.pos })
   -- step = "(" if "-" number ")"
   if_antecedent : (t u v w x : Lexeme) → Is sort.Open t → Is sort.If u → Is sort.Minus v → Is sort.Number w → Is sort.Close x
-      → DerivesStep (t ∷ u ∷ v ∷ w ∷ x ∷ []) (record { rule = rule.If (negated w.number); pos = t.pos })
+      → DerivesStep (t ∷ u ∷ v ∷ w ∷ x ∷ []) (record { rule = rule.If (antecedent_number w.number); pos = t.pos })
 
 -- step { step }
 pub data DerivesSteps : List Lexeme → List Step → Type 0 where
@@ -64,9 +64,9 @@ pub data BeginsScript : List Lexeme → Type 0 where
   nothing : BeginsScript []
   -- in the first step
   first : (ts : List Lexeme) (t : Lexeme) → Is sort.Open t → BeginsStep ts → BeginsScript (t ∷ ts)
-  -- in a step behind others
+  -- in a step after others
   step : (ts us : List Lexeme) (ss : List Step) (t : Lexeme) → Is sort.Open t → DerivesSteps ts ss → BeginsStep us → BeginsScript (t ∷ (ts ++ us))
-  -- in a script behind the steps, and maybe behind others
+  -- in a script after the steps, and maybe after others
   tree : (ts us vs : List Lexeme) (ss : List Step) (xs : List Script) (t : Lexeme) → Is sort.Open t → DerivesSteps ts ss → DerivesScripts us xs
       → BeginsScript vs → BeginsScript (t ∷ (ts ++ (us ++ vs)))
   closed : (ts : List Lexeme) (x : Script) → DerivesScript ts x → BeginsScript ts
@@ -81,11 +81,11 @@ abbrev pub closes : Sort → Bool
 closes sort.Close = true
 closes _ = false
 
--- how many parentheses are open behind the tokens
+-- how many parentheses are open after the tokens
 abbrev pub level : List Lexeme → ℕ
 level ts = count_by (λ t. opens t.sort) ts - count_by (λ t. closes t.sort) ts
 
--- behind no token more than 200 parentheses are open
+-- after no token more than 200 parentheses are open
 abbrev pub IsShallow : List Lexeme → Type 0
 IsShallow ts = (us vs : List Lexeme) → ts ≡ us ++ vs → level us ≤ 200
 
@@ -93,6 +93,6 @@ IsShallow ts = (us vs : List Lexeme) → ts ≡ us ++ vs → level us ≤ 200
 
 -- The tokens of the span have no lexical fault, are the script, and nest at most 200 levels deep.
 pub record IsScript (text : List ℕ) (proof : Proof) (x : Script) : Type 0 where
-  pub faultless : (lexed text proof).fault ≡ None
+  pub faultless : (script_tokens text proof).fault ≡ None
   pub derives : DerivesScript (lexemes text proof) x
   pub shallow : IsShallow (lexemes text proof)

@@ -1,5 +1,5 @@
 -- The tokens of a script: those of its span, as the grammar tells them apart.
-use Rattle.std.specs.Prelude.{ℕ, ◌+◌, ◌-◌, ◌*◌, nat_le, ◌==◌, if◌then◌else◌, List, [], ◌∷◌, length, map, take, drop, codes}
+use Rattle.std.specs.Prelude.{ℕ, ◌+◌, ◌-◌, ◌*◌, nat_le, ◌==◌, if◌then◌else◌, List, [], ◌∷◌, length, map, codes}
 use Rattle.std.specs.Char.{is_ascii_digit}
 use Rattle.std.specs.Str.{bytes_eq}
 use Rattle.pvs_base.specs.declared.place.Pos.{Pos}
@@ -9,7 +9,7 @@ use Rattle.pvs_lexer.specs.declared.token.Token.{Token}
 use Rattle.pvs_lexer.specs.declared.token.TokenKind.{TokenKind}
 use Rattle.pvs_lexer.specs.declared.token.TokenKind.TheVariants as kind
 use Rattle.pvs_lexer.specs.Spans.{bytes_of}
-use Rattle.pvs_lexer.specs.Tokens.{Lexed, tokens_of}
+use Rattle.pvs_lexer.specs.Tokens.{TokenStream, tokens_of}
 use Rattle.pvs_syntax.specs.declared.unit.Proof.{Proof}
 use Rattle.pvs_script.specs.declared.lexeme.Lexeme.{Lexeme}
 use Rattle.pvs_script.specs.declared.lexeme.Sort.{Sort}
@@ -47,7 +47,7 @@ sort_of kind.Quoted bytes = sort.Other
 abbrev pub digit : ℕ → ℕ
 digit b = if is_ascii_digit b then b - 48 else 0
 
--- the number that digits write in decimal behind those of n
+-- the number that digits write in decimal after those of n
 abbrev pub decimal_after : ℕ → List ℕ → ℕ
 decimal_after n [] = n
 decimal_after n (b ∷ bs) = decimal_after (n * 10 + digit b) bs
@@ -77,12 +77,12 @@ lexeme span t = record {
 abbrev pub script_span : List ℕ → Proof → List ℕ
 script_span text proof = span_of text proof.start proof.end
 
--- the tokens of the span, with the lexical fault behind them, if there is one
-abbrev pub lexed : List ℕ → Proof → Lexed
-lexed text proof = tokens_of proof.pos (script_span text proof)
+-- the tokens of the span, with the lexical fault after them, if there is one
+abbrev pub script_tokens : List ℕ → Proof → TokenStream
+script_tokens text proof = tokens_of proof.pos (script_span text proof)
 
 abbrev pub lexemes : List ℕ → Proof → List Lexeme
-lexemes text proof = map (lexeme (script_span text proof)) (lexed text proof).tokens
+lexemes text proof = map (lexeme (script_span text proof)) (script_tokens text proof).tokens
 
 -- the place after the last byte of the span
 abbrev pub end_place : List ℕ → Proof → Pos

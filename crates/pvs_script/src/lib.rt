@@ -11,7 +11,7 @@ mod tree;
 
 pub use fault::ScriptFault;
 pub use lexeme::{Lexeme, Sort};
-pub use reading::{one_fault, one_script, read_script};
+pub use reading::{one_answer, one_script, read_script};
 pub use tree::{Rule, Script, Step};
 
 #[cfg(test)]

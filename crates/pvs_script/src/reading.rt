@@ -1,13 +1,13 @@
-//! The calls of this crate: the script of a span, and that there is at most one.
+//! The calls of this crate: the script of a span, and that each span has one answer.
 
-ghost use Rattle.std.specs.Prelude.{◌≡◌, ◌≤◌, ◌^◌, List, ℕ, length, IfOk, Ok, Err};
+ghost use Rattle.std.specs.Prelude.{◌≡◌, ◌≤◌, ◌^◌, List, ℕ, length, IfOk, Result, Ok, Err};
 ghost use Rattle.pvs_base.specs.Place.{place_after};
 ghost use Rattle.pvs_base.specs.declared.code.Fault as code;
 ghost use Rattle.pvs_syntax.specs.declared.unit.Proof as unit;
 ghost use Rattle.pvs_script.specs.declared.lexeme.Lexeme as lexeme;
 ghost use Rattle.pvs_script.specs.declared.tree.Script as tree;
 ghost use Rattle.pvs_script.specs.Grammar.{DerivesScript, IsScript};
-ghost use Rattle.pvs_script.specs.Faults.{IsFirstFault};
+ghost use Rattle.pvs_script.specs.Faults.{IsFirstFault, IsScriptAnswer};
 ghost use Rattle.pvs_script.specs.Reading.{Gives, script_of};
 ghost use Rattle.pvs_script.specs.Reading as spec;
 
@@ -15,7 +15,7 @@ use crate::fault::ScriptFault;
 use crate::lexeme::Lexeme;
 use crate::sorts::lexeme;
 use crate::state::State;
-use crate::steps::{is_deep, step};
+use crate::steps::{is_deep, next_state};
 use crate::tree::Script;
 use pvs_base::{Code, Fault, Pos};
 use pvs_lexer::Lexer;
@@ -32,7 +32,7 @@ fn fault(pos: Pos, code: Code) -> ScriptFault
 fn take_token(alloc: Global, state: State, token: &Lexeme) -> Result<State, ScriptFault>
     ensures { Gives result (spec.take_token state token.now) }
 {
-    let Some(state) = step(alloc, state, token)? else {
+    let Some(state) = next_state(alloc, state, token)? else {
         return Err(fault(token.pos, Code::OutOfProfile));
     };
     if is_deep(&state) {
@@ -127,7 +127,8 @@ pub fn one_script()
     ensures { (ts : List lexeme.Lexeme) (x y : tree.Script) → DerivesScript ts x → DerivesScript ts y → x ≡ y }
 {}
 
-/// A span has at most one first fault.
-pub fn one_fault()
-    ensures { (text : List ℕ) (proof : unit.Proof) (f g : code.Fault) → IsFirstFault text proof f → IsFirstFault text proof g → f ≡ g }
+/// Each proof has exactly one answer: its script, or its first fault.
+pub fn one_answer()
+    ensures some { (text : List ℕ) (proof : unit.Proof) → (a : Result tree.Script code.Fault) × IsScriptAnswer text proof a }
+    ensures only { (text : List ℕ) (proof : unit.Proof) (a b : Result tree.Script code.Fault) → IsScriptAnswer text proof a → IsScriptAnswer text proof b → a ≡ b }
 {}

@@ -21,7 +21,7 @@ pub struct Nest {
     /// All but the innermost one.
     pub outer: Items<OpenTree>,
     pub tree: OpenTree,
-    pub part: Part,
+    pub prefix: Prefix,
 }
 
 /// A tree whose closing parenthesis is still to come: its steps and its trees so far.
@@ -31,9 +31,9 @@ pub struct OpenTree {
     pub trees: Items<Script>,
 }
 
-/// What stands behind the last whole part of the innermost tree.
+/// The tokens after the last whole part of the innermost tree, which begin a step or a tree.
 #[derive(Clone, Copy)]
-pub enum Part {
+pub enum Prefix {
     Nothing,
     /// A parenthesis at this place.
     Opened(Pos),

@@ -1,11 +1,11 @@
 //! What the next token of a script leads to.
 
-ghost use Rattle.std.specs.Prelude.{◌≡◌, IfOk, List, []};
-ghost use Rattle.pvs_script.specs.Grammar.{negated};
+ghost use Rattle.std.specs.Prelude.{◌≡◌, IfOk, []};
+ghost use Rattle.pvs_script.specs.Grammar.{antecedent_number};
 ghost use Rattle.pvs_script.specs.States as spec;
 
 use crate::lexeme::{Lexeme, Sort};
-use crate::state::{Nest, OpenTree, Part, State};
+use crate::state::{Nest, OpenTree, Prefix, State};
 use crate::tree::{Rule, Script, Step};
 use pvs_base::{MAX_LEVEL, Pos};
 use sqlite_items::Items;
@@ -13,7 +13,7 @@ use std::alloc::{AllocError, Global};
 
 /// The number of the antecedent with this one.
 fn antecedent(number: u32) -> i64
-    ensures { result ≡ negated number }
+    ensures { result ≡ antecedent_number number }
 {
     -(number as i64)
 }
@@ -27,21 +27,21 @@ fn empty_tree(alloc: Global) -> OpenTree
     }
 }
 
-/// The same trees, with something else behind the last whole part.
-fn with_part(nest: Nest, part: Part) -> Option<State>
-    ensures { result ≡ spec.at nest.outer nest.tree part }
+/// The same trees, with something else after the last whole part.
+fn with_prefix(nest: Nest, prefix: Prefix) -> Option<State>
+    ensures { result ≡ spec.at nest.outer nest.tree prefix }
 {
-    Some(State::Inside(Nest { part, ..nest }))
+    Some(State::Inside(Nest { prefix, ..nest }))
 }
 
 fn start(alloc: Global, token: &Lexeme) -> Option<State>
-    ensures { result ≡ spec.step_start token.now.sort }
+    ensures { result ≡ spec.first_state token.now.sort }
 {
     match token.sort {
         Sort::Open => Some(State::Inside(Nest {
             outer: Items::new(alloc),
             tree: empty_tree(alloc),
-            part: Part::Nothing,
+            prefix: Prefix::Nothing,
         })),
         _ => None,
     }
@@ -50,7 +50,7 @@ fn start(alloc: Global, token: &Lexeme) -> Option<State>
 /// The innermost tree ends: it is the whole script, or one of the trees of the one around it.
 #[tactic(auto, using(crate::proofs::Stacks::last_push))]
 fn end_tree(nest: Nest) -> Result<State, AllocError>
-    ensures { IfOk result (λ s. s ≡ spec.ended nest.outer (spec.script_of nest.tree)) }
+    ensures { IfOk result (λ s. s ≡ spec.state_after nest.outer (spec.script_of nest.tree)) }
 {
     let Nest {
         mut outer,
@@ -68,17 +68,17 @@ fn end_tree(nest: Nest) -> Result<State, AllocError>
     Ok(State::Inside(Nest {
         outer,
         tree: parent,
-        part: Part::Nothing,
+        prefix: Prefix::Nothing,
     }))
 }
 
-/// Behind the parenthesis of a tree, or a whole part of it, a step or a tree may begin, and a
+/// After the parenthesis of a tree, or a whole part of it, a step or a tree may begin, and a
 /// tree with a step may end.
-fn behind_nothing(nest: Nest, token: &Lexeme) -> Result<Option<State>, AllocError>
-    ensures { IfOk result (λ s. s ≡ spec.behind_nothing token.now nest.outer nest.tree token.now.sort) }
+fn after_whole(nest: Nest, token: &Lexeme) -> Result<Option<State>, AllocError>
+    ensures { IfOk result (λ s. s ≡ spec.after_whole token.now nest.outer nest.tree token.now.sort) }
 {
     match token.sort {
-        Sort::Open => Ok(with_part(nest, Part::Opened(token.pos))),
+        Sort::Open => Ok(with_prefix(nest, Prefix::Opened(token.pos))),
         Sort::Close => match nest.tree.steps.as_slice() {
             [] => Ok(None),
             [_, ..] => {
@@ -91,16 +91,16 @@ fn behind_nothing(nest: Nest, token: &Lexeme) -> Result<Option<State>, AllocErro
 }
 
 /// A step goes on, which stands before all trees.
-fn in_step(nest: Nest, part: Part) -> Option<State>
-    ensures { result ≡ spec.in_step nest.outer nest.tree part nest.tree.trees }
+fn in_step(nest: Nest, prefix: Prefix) -> Option<State>
+    ensures { result ≡ spec.in_step nest.outer nest.tree prefix nest.tree.trees }
 {
     match nest.tree.trees.as_slice() {
-        [] => with_part(nest, part),
+        [] => with_prefix(nest, prefix),
         [_, ..] => None,
     }
 }
 
-/// A tree begins, which stands behind a step: two parentheses.
+/// A tree begins, which stands after a step: two parentheses.
 fn in_tree(alloc: Global, nest: Nest, pos: Pos) -> Result<Option<State>, AllocError>
     ensures { IfOk result (λ s. s ≡ spec.in_tree nest.outer nest.tree pos nest.tree.steps) }
 {
@@ -116,60 +116,60 @@ fn in_tree(alloc: Global, nest: Nest, pos: Pos) -> Result<Option<State>, AllocEr
     Ok(Some(State::Inside(Nest {
         outer,
         tree: empty_tree(alloc),
-        part: Part::Opened(pos),
+        prefix: Prefix::Opened(pos),
     })))
 }
 
-/// Behind a further parenthesis in a tree.
-fn behind_opened(
+/// After a further parenthesis in a tree.
+fn after_open(
     alloc: Global,
     nest: Nest,
     pos: Pos,
     token: &Lexeme,
 ) -> Result<Option<State>, AllocError>
-    ensures { IfOk result (λ s. s ≡ spec.behind_opened token.now nest.outer nest.tree pos token.now.sort) }
+    ensures { IfOk result (λ s. s ≡ spec.after_open token.now nest.outer nest.tree pos token.now.sort) }
 {
     match token.sort {
         Sort::Axiom => {
             let rule = Rule::Axiom;
-            Ok(in_step(nest, Part::Step(Step { rule, pos })))
+            Ok(in_step(nest, Prefix::Step(Step { rule, pos })))
         }
-        Sort::If => Ok(in_step(nest, Part::If(pos))),
+        Sort::If => Ok(in_step(nest, Prefix::If(pos))),
         Sort::Open => in_tree(alloc, nest, token.pos),
         _ => Ok(None),
     }
 }
 
-/// Behind `if`.
-fn behind_if(nest: Nest, pos: Pos, token: &Lexeme) -> Option<State>
-    ensures { result ≡ spec.behind_if token.now nest.outer nest.tree pos token.now.sort }
+/// After `if`.
+fn after_if(nest: Nest, pos: Pos, token: &Lexeme) -> Option<State>
+    ensures { result ≡ spec.after_if token.now nest.outer nest.tree pos token.now.sort }
 {
     match token.sort {
         Sort::Number => {
             let rule = Rule::If(token.number as i64);
-            with_part(nest, Part::Step(Step { rule, pos }))
+            with_prefix(nest, Prefix::Step(Step { rule, pos }))
         }
-        Sort::Minus => with_part(nest, Part::Minus(pos)),
+        Sort::Minus => with_prefix(nest, Prefix::Minus(pos)),
         _ => None,
     }
 }
 
-/// Behind `if` and a minus sign.
-fn behind_minus(nest: Nest, pos: Pos, token: &Lexeme) -> Option<State>
-    ensures { result ≡ spec.behind_minus token.now nest.outer nest.tree pos token.now.sort }
+/// After `if` and a minus sign.
+fn after_minus(nest: Nest, pos: Pos, token: &Lexeme) -> Option<State>
+    ensures { result ≡ spec.after_minus token.now nest.outer nest.tree pos token.now.sort }
 {
     match token.sort {
         Sort::Number => {
             let rule = Rule::If(antecedent(token.number));
-            with_part(nest, Part::Step(Step { rule, pos }))
+            with_prefix(nest, Prefix::Step(Step { rule, pos }))
         }
         _ => None,
     }
 }
 
-/// Behind all of a step but its closing parenthesis.
-fn behind_step(nest: Nest, step: Step, token: &Lexeme) -> Result<Option<State>, AllocError>
-    ensures { IfOk result (λ s. s ≡ spec.behind_step nest.outer nest.tree step token.now.sort) }
+/// After all of a step but its closing parenthesis.
+fn after_step(nest: Nest, step: Step, token: &Lexeme) -> Result<Option<State>, AllocError>
+    ensures { IfOk result (λ s. s ≡ spec.after_step nest.outer nest.tree step token.now.sort) }
 {
     match token.sort {
         Sort::Close => {
@@ -182,43 +182,43 @@ fn behind_step(nest: Nest, step: Step, token: &Lexeme) -> Result<Option<State>, 
             Ok(Some(State::Inside(Nest {
                 outer,
                 tree,
-                part: Part::Nothing,
+                prefix: Prefix::Nothing,
             })))
         }
         _ => Ok(None),
     }
 }
 
-fn step_inside(alloc: Global, nest: Nest, token: &Lexeme) -> Result<Option<State>, AllocError>
-    ensures { IfOk result (λ s. s ≡ spec.step_inside token.now nest.outer nest.tree nest.part) }
+fn next_inside(alloc: Global, nest: Nest, token: &Lexeme) -> Result<Option<State>, AllocError>
+    ensures { IfOk result (λ s. s ≡ spec.next_inside token.now nest.outer nest.tree nest.prefix) }
 {
-    match nest.part {
-        Part::Nothing => behind_nothing(nest, token),
-        Part::Opened(pos) => behind_opened(alloc, nest, pos, token),
-        Part::If(pos) => Ok(behind_if(nest, pos, token)),
-        Part::Minus(pos) => Ok(behind_minus(nest, pos, token)),
-        Part::Step(step) => behind_step(nest, step, token),
+    match nest.prefix {
+        Prefix::Nothing => after_whole(nest, token),
+        Prefix::Opened(pos) => after_open(alloc, nest, pos, token),
+        Prefix::If(pos) => Ok(after_if(nest, pos, token)),
+        Prefix::Minus(pos) => Ok(after_minus(nest, pos, token)),
+        Prefix::Step(step) => after_step(nest, step, token),
     }
 }
 
 /// What a token leads to. None: it can't come.
-pub fn step(alloc: Global, state: State, token: &Lexeme) -> Result<Option<State>, AllocError>
-    ensures { IfOk result (λ s. s ≡ spec.step state token.now) }
+pub fn next_state(alloc: Global, state: State, token: &Lexeme) -> Result<Option<State>, AllocError>
+    ensures { IfOk result (λ s. s ≡ spec.next_state state token.now) }
 {
     match state {
         State::Start => Ok(start(alloc, token)),
-        State::Inside(nest) => step_inside(alloc, nest, token),
+        State::Inside(nest) => next_inside(alloc, nest, token),
         State::Whole(_) => Ok(None),
     }
 }
 
-/// How many parentheses the part behind the last whole one leaves open.
-fn part_depth(part: Part) -> usize
-    ensures { result ≡ spec.part_depth part }
+/// How many parentheses the prefix of a part leaves open.
+fn prefix_depth(prefix: Prefix) -> usize
+    ensures { result ≡ spec.prefix_depth prefix }
 {
-    match part {
-        Part::Nothing => 0,
-        Part::Opened(_) | Part::If(_) | Part::Minus(_) | Part::Step(_) => 1,
+    match prefix {
+        Prefix::Nothing => 0,
+        Prefix::Opened(_) | Prefix::If(_) | Prefix::Minus(_) | Prefix::Step(_) => 1,
     }
 }
 
@@ -230,7 +230,7 @@ pub fn is_deep(state: &State) -> bool
         State::Start | State::Whole(_) => false,
         State::Inside(nest) => {
             let outer = nest.outer.len();
-            outer >= MAX_LEVEL || outer + 1 + part_depth(nest.part) > MAX_LEVEL
+            outer >= MAX_LEVEL || outer + 1 + prefix_depth(nest.prefix) > MAX_LEVEL
         }
     }
 }

@@ -1,6 +1,6 @@
 //! Scripts and first faults of small texts, written out by hand, and how deep a script may nest.
 
-use crate::{Rule, Script, ScriptFault, Step, one_fault, one_script, read_script};
+use crate::{Rule, Script, ScriptFault, Step, one_answer, one_script, read_script};
 use pvs_base::{MAX_TEXT, Pos, code_name};
 use pvs_syntax::{Proof, Word};
 use std::alloc::{AllocError, Global};
@@ -49,13 +49,13 @@ fn offset(text: &str) -> u32 {
 
 /// What a span is read as, that stands between two others and whose first byte has a place.
 fn read(alloc: Global, parts: [&str; 3], pos: Pos) -> Result<String, AllocError> {
-    let [before, span, behind] = parts;
+    let [before, span, after] = parts;
     let mut text = String::new(alloc);
     text.push_str(before)?;
     let start = offset(&text);
     text.push_str(span)?;
     let end = offset(&text);
-    text.push_str(behind)?;
+    text.push_str(after)?;
     let word = Word {
         start: 0,
         end: 0,
@@ -82,7 +82,7 @@ const TABLE: [(&str, &str); 34] = [
         "((if 123456789)(if 1234567890)(if -0000000001)(if -0))",
         "<if123456789@1:2 if0@1:16 if0@1:31 if0@1:47 >",
     ),
-    ("((axiom)) % behind\n", "<axiom@1:2 >"),
+    ("((axiom)) % after\n", "<axiom@1:2 >"),
     // Where a step or a tree is wanted.
     ("()", "OutOfProfile@1:2"),
     ("(axiom)", "OutOfProfile@1:2"),
@@ -108,7 +108,7 @@ const TABLE: [(&str, &str); 34] = [
     ("((axiom) \"x)", "UnclosedQuote@1:10"),
     ("((x) $)", "OutOfProfile@1:3"),
     ("((axiom)) $", "BadByte@1:11"),
-    // More behind the script.
+    // More after the script.
     ("((axiom)) x", "OutOfProfile@1:11"),
     ("((axiom))\n\t((axiom))", "OutOfProfile@2:2"),
     // The end of the span.
@@ -122,7 +122,7 @@ const TABLE: [(&str, &str); 34] = [
 #[test]
 fn scripts_and_faults_of_small_texts(rt: HostRuntime) -> Result<(), Fail> {
     one_script();
-    one_fault();
+    one_answer();
     for (span, want) in TABLE {
         let found = read(rt.alloc(), ["", span, ""], Pos::FIRST)?;
         assert_eq!(rt; found.as_str(), want);

@@ -1,1 +1,12 @@
+pub mod Signature
+pub mod References
+pub mod Development
+pub mod Scope
+pub mod Reach
+pub mod Mentions
+pub mod Instances
+pub mod Laws
+pub mod SignatureAt
 pub mod Lookups
+pub mod Ranks
+pub mod LookupsOf

@@ -3,7 +3,7 @@ use Rattle.std.proofs.Common.{◌≡◌, ℕ, zero, suc, ◌<◌, refl, ap, ◌�
 use Rattle.pvs_terms.specs.Tree.{Text, Tree, Leaf, Var, Name, Bind, Join, Project, If, Own, Formal, Inst, Trees, none, more, free_below, IsClosed, AreClosed, is_local, trees_local, trees_length}
 use Rattle.pvs_terms.specs.declared.shape.Sort.{Sort}
 use Rattle.pvs_subst.specs.Replace.{lift, put_var, put_at, put_in}
-use Rattle.pvs_subst.specs.Instance.{actual, instantiate, instantiate_all, AllFormalsBelow, HasActuals}
+use Rattle.pvs_subst.specs.Instance.{actual, instantiate, instantiate_all, HasActual, HasActuals, AllHaveActuals}
 use Rattle.pvs_subst.proofs.ReplaceLaws.{lift-closed, put_at-closed}
 
 -- what each actual has, the actual of a number has, or the name that it stands for
@@ -65,24 +65,24 @@ pub instantiate-put_in : (t u : Tree) (th : Text) (acts : Trees) → AreClosed a
 instantiate-put_in t u th acts c = instantiate-put_at t u 0 th acts c
 
 -- the instance of an instance is the instance by the actuals' instances
-actual-instantiate : (xs : Trees) (n : ℕ) (s t : Tree) (th : Text) (acts : Trees) → n < trees_length xs → instantiate (actual xs n s) th acts ≡ actual (instantiate_all xs th acts) n t
-actual-instantiate none n s t th acts h = absurd (omega (arith, h))
-actual-instantiate (more x xs) zero s t th acts h = refl
-actual-instantiate (more x xs) (suc n) s t th acts h = actual-instantiate xs n s t th acts (omega (arith, h))
+actual-instantiate : (xs : Trees) (n : ℕ) (o : Sort) (s t : Tree) (th : Text) (acts : Trees) → HasActual xs n o → instantiate (actual xs n s) th acts ≡ actual (instantiate_all xs th acts) n t
+actual-instantiate none n o s t th acts h = absurd h
+actual-instantiate (more x xs) zero o s t th acts h = refl
+actual-instantiate (more x xs) (suc n) o s t th acts h = actual-instantiate xs n o s t th acts h
 
 mutual
   pub instantiate-instantiate : (t : Tree) (th : Text) (acts : Trees) (uh : Text) (bcts : Trees) → HasActuals acts t → instantiate (instantiate t th acts) uh bcts ≡ instantiate t th (instantiate_all acts uh bcts)
   instantiate-instantiate (Leaf o) th acts uh bcts h = refl
   instantiate-instantiate (Var n) th acts uh bcts h = refl
   instantiate-instantiate (Name s (Own n)) th acts uh bcts h = refl
-  instantiate-instantiate (Name s (Formal n)) th acts uh bcts h = actual-instantiate acts n (Name s (Formal n)) (Name s (Formal n)) uh bcts h
+  instantiate-instantiate (Name s (Formal n)) th acts uh bcts h = actual-instantiate acts n s (Name s (Formal n)) (Name s (Formal n)) uh bcts h
   instantiate-instantiate (Name s (Inst a n xs)) th acts uh bcts h = ap (λ ys. Name s (Inst a n ys)) (instantiate_all-instantiate xs th acts uh bcts h)
   instantiate-instantiate (Bind o x y) th acts uh bcts h = rw (instantiate-instantiate x th acts uh bcts h.0, instantiate-instantiate y th acts uh bcts h.1) refl
   instantiate-instantiate (Join o x y) th acts uh bcts h = rw (instantiate-instantiate x th acts uh bcts h.0, instantiate-instantiate y th acts uh bcts h.1) refl
   instantiate-instantiate (Project o x) th acts uh bcts h = ap (Project o) (instantiate-instantiate x th acts uh bcts h)
   instantiate-instantiate (If x y z) th acts uh bcts h = rw (instantiate-instantiate x th acts uh bcts h.0, instantiate-instantiate y th acts uh bcts h.1, instantiate-instantiate z th acts uh bcts h.2) refl
 
-  pub instantiate_all-instantiate : (xs : Trees) (th : Text) (acts : Trees) (uh : Text) (bcts : Trees) → AllFormalsBelow (trees_length acts) xs → instantiate_all (instantiate_all xs th acts) uh bcts ≡ instantiate_all xs th (instantiate_all acts uh bcts)
+  pub instantiate_all-instantiate : (xs : Trees) (th : Text) (acts : Trees) (uh : Text) (bcts : Trees) → AllHaveActuals acts xs → instantiate_all (instantiate_all xs th acts) uh bcts ≡ instantiate_all xs th (instantiate_all acts uh bcts)
   instantiate_all-instantiate none th acts uh bcts h = refl
   instantiate_all-instantiate (more x xs) th acts uh bcts h = rw (instantiate-instantiate x th acts uh bcts h.0, instantiate_all-instantiate xs th acts uh bcts h.1) refl
 

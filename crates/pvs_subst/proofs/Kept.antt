@@ -1,7 +1,11 @@
 -- What stands after several calls that keep every number.
 use Rattle.std.proofs.Common.{◌≡◌, ℕ, refl, sym, ◌∙◌, ap, subst}
 use Rattle.pvs_terms.specs.Tree.{Tree, If, IsWithinLimits}
-use Rattle.pvs_terms.specs.Stored.{Stored, tree_at, IsNode, Extends, Stands, StandsAs}
+use Rattle.pvs_terms.specs.Stored.{Stored, tree_at, shape_tree, node_tree, IsNode, ShapeIn, PartsIn, Extends, Stands, StandsAs}
+use Rattle.pvs_terms.specs.Sorts.{HasSorts}
+use Rattle.pvs_terms.specs.Shapes.{shape_of}
+use Rattle.pvs_terms.specs.declared.node.Node.{Node}
+use Rattle.pvs_terms.specs.declared.shape.Shape.{Shape}
 use Rattle.pvs_terms.specs.declared.shape.Shape.TheVariants.{Choose}
 
 -- a number after two calls
@@ -30,3 +34,14 @@ choose_stands g {s} {t} {u} a b c d {x = x} {y = y} {z = z} p q r hb hc hd sx sy
       parts = (r.nodes x (q.nodes x sx.node), r.nodes y sy.node, sz.node);
       tree = rw (first, second, third) refl;
     }
+
+-- what a node that is made needs
+pub record IsMakeable (s : Stored) (n : Node) : Type 0 where
+  pub parts : PartsIn s n
+  pub sorted : HasSorts (node_tree s n)
+
+pub makeable : {s : Stored} {x : Shape} {t : Tree} (n : Node) → StandsAs s t x → shape_of n ≡ x → HasSorts t → IsMakeable s n
+makeable {s} {x} {t} n st e h = record {
+  parts = subst (ShapeIn s) (sym e) st.parts;
+  sorted = subst (λ y. HasSorts (shape_tree s y)) (sym e) (subst HasSorts (sym st.tree) h);
+}

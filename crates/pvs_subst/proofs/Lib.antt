@@ -1,4 +1,5 @@
 pub mod ReplaceLaws
+pub mod SortLaws
 pub mod InstanceLaws
 pub mod SizeLaws
 pub mod Kept

@@ -15,7 +15,7 @@ abbrev pub Assumptions : Type 0
 Assumptions = List Assumption
 
 -- a formula that is to hold in a context
-pub record Owed : Type 0 where
+pub record Obligation : Type 0 where
   pub context : Assumptions
   pub goal : Tree
 

@@ -1,6 +1,8 @@
 -- Instances: the formals of a theory become actuals, and its own entries those of the instance.
-use Rattle.std.specs.Prelude.{ℕ, zero, suc, ◌<◌, ◌≤◌}
-use Rattle.pvs_terms.specs.Tree.{Text, Tree, Leaf, Var, Name, Bind, Join, Project, If, Ref, Own, Formal, Inst, Trees, none, more, trees_length, trees_depth, trees_size, trees_top}
+use Rattle.std.specs.Prelude.{ℕ, zero, suc, ◌≡◌, ◌<◌, ◌≤◌}
+use Rattle.pvs_terms.specs.Tree.{Text, Tree, Leaf, Var, Name, Bind, Join, Project, If, Ref, Own, Formal, Inst, Trees, none, more, trees_depth, trees_size, trees_top}
+use Rattle.pvs_terms.specs.Sorts.{sort_of}
+use Rattle.pvs_terms.specs.declared.shape.Sort.{Sort}
 
 -- the actual of this number, and `other` where there is none
 abbrev pub actual : Trees → ℕ → Tree → Tree
@@ -26,32 +28,32 @@ abbrev mutual
   instantiate_all none th acts = none
   instantiate_all (more x xs) th acts = more (instantiate x th acts) (instantiate_all xs th acts)
 
--- each formal of the tree, within the actuals of its references too, is one of this many
+-- there is an actual of this number, and it is of this sort
+abbrev pub HasActual : Trees → ℕ → Sort → Type 0
+HasActual none n s = ⊥
+HasActual (more x xs) zero s = sort_of x ≡ s
+HasActual (more x xs) (suc n) s = HasActual xs n s
+
+-- each formal of the tree, within the actuals of its references too, has an actual of its number
+-- and of its sort
 abbrev mutual
-  pub FormalsBelow : ℕ → Tree → Type 0
-  FormalsBelow k (Leaf o) = Unit {0}
-  FormalsBelow k (Var n) = Unit {0}
-  FormalsBelow k (Name s r) = RefFormalsBelow k r
-  FormalsBelow k (Bind o a b) = FormalsBelow k a × FormalsBelow k b
-  FormalsBelow k (Join o a b) = FormalsBelow k a × FormalsBelow k b
-  FormalsBelow k (Project o a) = FormalsBelow k a
-  FormalsBelow k (If a b c) = FormalsBelow k a × FormalsBelow k b × FormalsBelow k c
+  pub HasActuals : Trees → Tree → Type 0
+  HasActuals acts (Leaf o) = Unit {0}
+  HasActuals acts (Var n) = Unit {0}
+  HasActuals acts (Name s (Own n)) = Unit {0}
+  HasActuals acts (Name s (Formal n)) = HasActual acts n s
+  HasActuals acts (Name s (Inst a n xs)) = AllHaveActuals acts xs
+  HasActuals acts (Bind o a b) = HasActuals acts a × HasActuals acts b
+  HasActuals acts (Join o a b) = HasActuals acts a × HasActuals acts b
+  HasActuals acts (Project o a) = HasActuals acts a
+  HasActuals acts (If a b c) = HasActuals acts a × HasActuals acts b × HasActuals acts c
 
-  pub RefFormalsBelow : ℕ → Ref → Type 0
-  RefFormalsBelow k (Own n) = Unit {0}
-  RefFormalsBelow k (Formal n) = n < k
-  RefFormalsBelow k (Inst a n xs) = AllFormalsBelow k xs
-
-  pub AllFormalsBelow : ℕ → Trees → Type 0
-  AllFormalsBelow k none = Unit {0}
-  AllFormalsBelow k (more x xs) = FormalsBelow k x × AllFormalsBelow k xs
-
--- each formal of the tree has an actual of its number
-abbrev pub HasActuals : Trees → Tree → Type 0
-HasActuals acts t = FormalsBelow (trees_length acts) t
+  pub AllHaveActuals : Trees → Trees → Type 0
+  AllHaveActuals acts none = Unit {0}
+  AllHaveActuals acts (more x xs) = HasActuals acts x × AllHaveActuals acts xs
 
 -- a node on a reference with these actuals is within the limits
-pub record FitTogether (ts : Trees) : Type 0 where
+pub record AreWithinLimits (ts : Trees) : Type 0 where
   pub deep : trees_depth ts < 1000
   pub large : trees_size ts < 1000000
   pub index : trees_top ts ≤ 1000000

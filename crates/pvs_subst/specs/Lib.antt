@@ -2,5 +2,5 @@ pub mod Replace
 pub mod Instance
 pub mod Faults
 pub mod Compound
-pub mod Given
+pub mod Instances
 pub mod Contexts

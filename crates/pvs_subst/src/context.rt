@@ -13,7 +13,7 @@ pub enum Assumed {
 }
 
 /// What is bound and assumed at a place, the innermost first. Each item stands in the context of
-/// those behind it, so that its index 0 is the variable of the first `Bind` behind it.
+/// those after it, so that its index 0 is the variable of the first `Bind` after it.
 #[derive(Debug, Drop)]
 pub struct Context {
     pub items: Items<Assumed>,

@@ -8,7 +8,7 @@ use std::alloc::{AllocError, AllocFailed};
 pub enum SubstFault {
     /// The result passes a limit of trees: of depth, of size or of indices.
     TooLarge,
-    /// Want of memory.
+    /// Out of memory.
     Memory,
 }
 

@@ -4,9 +4,9 @@ ghost use Rattle.std.specs.Prelude.{◌≡◌, ℕ, ◌+◌, ◌<◌, ◌≤◌,
 ghost use Rattle.pvs_terms.specs.Tree.{depth, IsWithinLimits, AreClosed, ref_actuals, trees_length};
 ghost use Rattle.pvs_terms.specs.Tree as tree;
 ghost use Rattle.pvs_terms.specs.Stored.{IsNode, IsRef, IsName, AreNodes, ShapeIn, tree_at, ref_at, trees_at, text_at, shape_tree, Stands, StandsAs, Extends};
-ghost use Rattle.pvs_subst.specs.Instance.{instantiate, instantiate_all, HasActuals, FormalsBelow, AllFormalsBelow, FitTogether};
+ghost use Rattle.pvs_subst.specs.Instance.{instantiate, instantiate_all, HasActuals, AllHaveActuals, AreWithinLimits};
 ghost use Rattle.pvs_subst.specs.Compound.{IsNoName};
-ghost use Rattle.pvs_subst.specs.Given.{IsGiven};
+ghost use Rattle.pvs_subst.specs.Instances.{IsInstance};
 
 use crate::fault::SubstFault;
 use pvs_terms::{Id, Name, Node, RefId, RefKind, Shape, Sort, Store};
@@ -33,8 +33,8 @@ fn instantiate_tree(
     actuals: &[Id],
 ) -> Result<Id, SubstFault>
     requires node { IsNode store.old id }
-    requires given { IsGiven store.old theory actuals.now }
-    requires formals { FormalsBelow (length actuals.now) (tree_at store.old id) }
+    requires instance { IsInstance store.old theory actuals.now }
+    requires formals { HasActuals (trees_at store.old actuals.now) (tree_at store.old id) }
     ensures ok { IfOk result (Stands store.new (instantiate (tree_at store.old id) (text_at store.old theory) (trees_at store.old actuals.now))) }
     ensures large { result ≡ Err SubstFault.TooLarge → ¬ IsWithinLimits (instantiate (tree_at store.old id) (text_at store.old theory) (trees_at store.old actuals.now)) }
     ensures kept { Extends store.old store.new }
@@ -63,8 +63,8 @@ fn instantiate_name(
     actuals: &[Id],
 ) -> Result<Id, SubstFault>
     requires known { IsRef store.old r }
-    requires given { IsGiven store.old theory actuals.now }
-    requires formals { FormalsBelow (length actuals.now) (tree.Name sort (ref_at store.old r)) }
+    requires instance { IsInstance store.old theory actuals.now }
+    requires formals { HasActuals (trees_at store.old actuals.now) (tree.Name sort (ref_at store.old r)) }
     ensures ok { IfOk result (Stands store.new (instantiate (tree.Name sort (ref_at store.old r)) (text_at store.old theory) (trees_at store.old actuals.now))) }
     ensures large { result ≡ Err SubstFault.TooLarge → ¬ IsWithinLimits (instantiate (tree.Name sort (ref_at store.old r)) (text_at store.old theory) (trees_at store.old actuals.now)) }
     ensures kept { Extends store.old store.new }
@@ -97,11 +97,11 @@ fn instantiate_list(
     actuals: &[Id],
 ) -> Result<Vec<Id>, SubstFault>
     requires nodes { AreNodes store.old ids.now }
-    requires given { IsGiven store.old theory actuals.now }
-    requires formals { AllFormalsBelow (length actuals.now) (trees_at store.old ids.now) }
+    requires instance { IsInstance store.old theory actuals.now }
+    requires formals { AllHaveActuals (trees_at store.old actuals.now) (trees_at store.old ids.now) }
     ensures nodes { IfOk result (λ v. AreNodes store.new v.items) }
     ensures ok { IfOk result (λ v. trees_at store.new v.items ≡ instantiate_all (trees_at store.old ids.now) (text_at store.old theory) (trees_at store.old actuals.now)) }
-    ensures large { result ≡ Err SubstFault.TooLarge → ¬ FitTogether (instantiate_all (trees_at store.old ids.now) (text_at store.old theory) (trees_at store.old actuals.now)) }
+    ensures large { result ≡ Err SubstFault.TooLarge → ¬ AreWithinLimits (instantiate_all (trees_at store.old ids.now) (text_at store.old theory) (trees_at store.old actuals.now)) }
     ensures kept { Extends store.old store.new }
 {
     match ids.split_first() {
@@ -126,9 +126,9 @@ fn instantiate_both(
 ) -> Result<(Id, Id), SubstFault>
     requires first { IsNode store.old a }
     requires second { IsNode store.old b }
-    requires given { IsGiven store.old theory actuals.now }
-    requires formals { FormalsBelow (length actuals.now) (tree_at store.old a) }
-    requires more_formals { FormalsBelow (length actuals.now) (tree_at store.old b) }
+    requires instance { IsInstance store.old theory actuals.now }
+    requires formals { HasActuals (trees_at store.old actuals.now) (tree_at store.old a) }
+    requires more_formals { HasActuals (trees_at store.old actuals.now) (tree_at store.old b) }
     ensures first { IfOk result (λ p. Stands store.new (instantiate (tree_at store.old a) (text_at store.old theory) (trees_at store.old actuals.now)) p.0) }
     ensures second { IfOk result (λ p. Stands store.new (instantiate (tree_at store.old b) (text_at store.old theory) (trees_at store.old actuals.now)) p.1) }
     ensures large { result ≡ Err SubstFault.TooLarge → IsWithinLimits (instantiate (tree_at store.old a) (text_at store.old theory) (trees_at store.old actuals.now)) → ¬ IsWithinLimits (instantiate (tree_at store.old b) (text_at store.old theory) (trees_at store.old actuals.now)) }
@@ -149,8 +149,8 @@ fn instantiate_parts(
 ) -> Result<Shape, SubstFault>
     requires parts { ShapeIn store.old shape }
     requires unnamed { IsNoName shape }
-    requires given { IsGiven store.old theory actuals.now }
-    requires formals { FormalsBelow (length actuals.now) (shape_tree store.old shape) }
+    requires instance { IsInstance store.old theory actuals.now }
+    requires formals { HasActuals (trees_at store.old actuals.now) (shape_tree store.old shape) }
     ensures ok { IfOk result (StandsAs store.new (instantiate (shape_tree store.old shape) (text_at store.old theory) (trees_at store.old actuals.now))) }
     ensures large { result ≡ Err SubstFault.TooLarge → ¬ IsWithinLimits (instantiate (shape_tree store.old shape) (text_at store.old theory) (trees_at store.old actuals.now)) }
     ensures kept { Extends store.old store.new }
@@ -191,7 +191,7 @@ pub fn instantiate_node(
     requires theory { IsName store.old theory }
     requires actuals { AreNodes store.old actuals.now }
 
-    // The actuals have no free index, and each formal has one of its number.
+    // The actuals have no free index, and each formal has one of its number and sort.
     requires closed { AreClosed (trees_at store.old actuals.now) }
     requires formals { HasActuals (trees_at store.old actuals.now) (tree_at store.old id) }
     ensures ok { IfOk result (Stands store.new (instantiate (tree_at store.old id) (text_at store.old theory) (trees_at store.old actuals.now))) }

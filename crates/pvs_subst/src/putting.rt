@@ -1,8 +1,9 @@
-//! Putting a term in for an index.
+//! Substitution of a term for an index.
 
 ghost use Rattle.std.specs.Prelude.{◌≡◌, ℕ, ◌+◌, ◌<◌, ◌^◌, ◌≤◌, length, IfOk, Err};
 ghost use Rattle.pvs_terms.specs.Tree.{depth, IsWithinLimits};
 ghost use Rattle.pvs_terms.specs.Stored.{IsNode, tree_at, shape_tree, ShapeIn, Stands, StandsAs, Extends};
+ghost use Rattle.pvs_terms.specs.Sorts.{IsTerm};
 ghost use Rattle.pvs_subst.specs.Replace.{lift, put_var, put_at, put_in};
 ghost use Rattle.pvs_subst.specs.Compound.{IsCompound};
 
@@ -10,10 +11,11 @@ use crate::fault::SubstFault;
 use crate::lifting::lift;
 use pvs_terms::{Id, Node, Shape, Store};
 
-/// What stands for an index where `arg` is put in for one.
+/// What stands for an index where `arg` is substituted for one.
 #[tactic(auto, using(crate::proofs::ReplaceLaws::put_var_below, crate::proofs::ReplaceLaws::put_var_at, crate::proofs::ReplaceLaws::put_var_above))]
 fn put_index(store: &mut Store, n: u32, arg: Id, at: u32) -> Result<Id, SubstFault>
     requires arg { IsNode store.old arg }
+    requires term { IsTerm (tree_at store.old arg) }
     ensures ok { IfOk result (Stands store.new (put_var (tree_at store.old arg) at n)) }
     ensures large { result ≡ Err SubstFault.TooLarge → ¬ IsWithinLimits (put_var (tree_at store.old arg) at n) }
     ensures kept { Extends store.old store.new }
@@ -32,6 +34,7 @@ fn put_index(store: &mut Store, n: u32, arg: Id, at: u32) -> Result<Id, SubstFau
 fn put_below(store: &mut Store, body: Id, arg: Id, at: u32) -> Result<Id, SubstFault>
     requires body { IsNode store.old body }
     requires arg { IsNode store.old arg }
+    requires term { IsTerm (tree_at store.old arg) }
     requires room { at + depth (tree_at store.old body) < 2 ^ 32 }
     ensures ok { IfOk result (Stands store.new (put_at (tree_at store.old body) (tree_at store.old arg) at)) }
     ensures large { result ≡ Err SubstFault.TooLarge → ¬ IsWithinLimits (put_at (tree_at store.old body) (tree_at store.old arg) at) }
@@ -51,12 +54,13 @@ fn put_below(store: &mut Store, body: Id, arg: Id, at: u32) -> Result<Id, SubstF
     }
 }
 
-/// The parts with `arg` put in.
+/// The parts after substitution of `arg`.
 #[cycle(put)]
 #[tactic(auto, using(pvs_terms::proofs::StoredLaws::extends_trans))]
 fn put_parts(store: &mut Store, shape: Shape, arg: Id, at: u32) -> Result<Shape, SubstFault>
     requires parts { ShapeIn store.old shape }
     requires arg { IsNode store.old arg }
+    requires term { IsTerm (tree_at store.old arg) }
     requires room { at + depth (shape_tree store.old shape) < 2 ^ 32 }
     requires compound { IsCompound shape }
     ensures ok { IfOk result (StandsAs store.new (put_at (shape_tree store.old shape) (tree_at store.old arg) at)) }
@@ -90,10 +94,11 @@ fn put_parts(store: &mut Store, shape: Shape, arg: Id, at: u32) -> Result<Shape,
     }
 }
 
-/// The body with `arg` in the place of its index 0, and its other free indices lowered.
+/// The body with the term `arg` in the place of its index 0, and its other free indices lowered.
 pub fn put_in(store: &mut Store, body: Id, arg: Id) -> Result<Id, SubstFault>
     requires body { IsNode store.old body }
     requires arg { IsNode store.old arg }
+    requires term { IsTerm (tree_at store.old arg) }
     ensures ok { IfOk result (Stands store.new (put_in (tree_at store.old body) (tree_at store.old arg))) }
     ensures large { result ≡ Err SubstFault.TooLarge → ¬ IsWithinLimits (put_in (tree_at store.old body) (tree_at store.old arg)) }
     ensures kept { Extends store.old store.new }

@@ -2,6 +2,7 @@
 
 ghost use Rattle.std.specs.Prelude.{◌≡◌, ◌<◌, length, IfOk};
 ghost use Rattle.pvs_terms.specs.Tree as tree;
+ghost use Rattle.pvs_terms.specs.Sorts.{IsTerm};
 ghost use Rattle.pvs_terms.specs.Stored.{IsNode, tree_at, Stands, Extends};
 
 use crate::{Assumed, Condition, Context, SubstFault, instantiate_node, lift, put_in};
@@ -76,8 +77,10 @@ fn formals_become_actuals(rt: HostRuntime) -> Result<(), Fail> {
 
 /// The conjunction of a formula with itself.
 fn doubled(store: &mut Store, formula: Id) -> Result<Id, MakeFault>
-    requires { IsNode store.old formula }
+    requires node { IsNode store.old formula }
+    requires term { IsTerm (tree_at store.old formula) }
     ensures ok { IfOk result (IsNode store.new) }
+    ensures term { IfOk result (λ id. IsTerm (tree_at store.new id)) }
     ensures kept { Extends store.old store.new }
 {
     let falsity = store.make(Node::False)?;
@@ -87,7 +90,8 @@ fn doubled(store: &mut Store, formula: Id) -> Result<Id, MakeFault>
 
 /// A formula of 786,430 nodes.
 fn chain(store: &mut Store) -> Result<Id, MakeFault>
-    ensures { IfOk result (IsNode store.new) }
+    ensures node { IfOk result (IsNode store.new) }
+    ensures term { IfOk result (λ id. IsTerm (tree_at store.new id)) }
 {
     let mut formula = store.make(Node::True)?;
     for _ in 0..18 {

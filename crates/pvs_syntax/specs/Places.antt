@@ -4,10 +4,11 @@
 use Rattle.std.specs.Prelude.{Option, Some, None}
 use Rattle.pvs_base.specs.declared.place.Pos.{Pos}
 use Rattle.pvs_syntax.specs.declared.expression.Expr.{Expr}
+use Rattle.pvs_syntax.specs.declared.expression.InstExpr.{InstExpr}
 use Rattle.pvs_syntax.specs.declared.expression.NameExpr.{NameExpr}
 use Rattle.pvs_syntax.specs.declared.expression.TypeExpr.{TypeExpr}
 use Rattle.pvs_syntax.specs.declared.expression.Actual.TheOpen.{Actual-F, Expr-F, TypeExpr-F, Binding-F, InstExpr-F, LetPart-F, NameExpr-F}
-use Rattle.pvs_syntax.specs.declared.expression.Actual.TheFolds.{fold-Expr, fold-NameExpr, fold-TypeExpr}
+use Rattle.pvs_syntax.specs.declared.expression.Actual.TheFolds.{fold-Expr, fold-InstExpr, fold-NameExpr, fold-TypeExpr}
 
 abbrev pub Step : (Type 0 → Type 0 → Type 0 → Type 0 → Type 0 → Type 0 → Type 0 → Type 0) → Type 0
 Step F = F Pos Pos Pos Pos Pos Pos Pos → Pos
@@ -64,3 +65,7 @@ place_of_type = fold-TypeExpr Pos Pos Pos Pos Pos Pos Pos actual_step expr_step 
 -- the place of a name
 abbrev pub place_of_name : NameExpr → Pos
 place_of_name = fold-NameExpr Pos Pos Pos Pos Pos Pos Pos actual_step expr_step type_step binding_step inst_step part_step name_step
+
+-- the place of an instance of a theory
+abbrev pub place_of_inst : InstExpr → Pos
+place_of_inst = fold-InstExpr Pos Pos Pos Pos Pos Pos Pos actual_step expr_step type_step binding_step inst_step part_step name_step

@@ -109,7 +109,7 @@ pub enum Expr {
     /// `f(a, b)`: the function, and one argument or more.
     Apply(Boxed<Expr>, Items<Expr>),
 
-    /// A projection: the operand, and the number behind the backquote.
+    /// A projection: the operand, and the number after the backquote.
     Project(Boxed<Expr>, Word),
 
     /// An expression in parentheses.
@@ -118,7 +118,7 @@ pub enum Expr {
     /// `(a, b)`: two parts or more.
     TupleTerm(Items<Expr>, Pos),
 
-    /// The expressions behind IF, THEN and ELSE, in this order. An ELSIF is an IF in the else part,
+    /// The expressions after IF, THEN and ELSE, in this order. An ELSIF is an IF in the else part,
     /// and its place is that of the word ELSIF.
     Cond(Boxed<Expr>, Boxed<Expr>, Boxed<Expr>, Pos),
 

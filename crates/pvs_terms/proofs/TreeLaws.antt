@@ -1,8 +1,8 @@
 -- The test for equal trees decides equality.
-use Rattle.std.proofs.Common.{◌≡◌, ℕ, refl, ap, sym, subst, ◌⊎◌, inl, inr, Bool, true, false, ◌&&◌, eqb, eq-eqb}
+use Rattle.std.proofs.Common.{◌≡◌, ℕ, List, refl, ap, sym, ◌∙◌, subst, ◌⊎◌, inl, inr, Bool, true, false, ◌&&◌, eqb, eq-eqb}
 use Rattle.std.proofs.lemmas.Bool.{eqb-true}
 use Rattle.std.proofs.lemmas.Slice.Eq.{bytes_eq-Decides}
-use Rattle.std.specs.Prelude.{bytes_eq}
+use Rattle.std.specs.Prelude.{bytes_eq, IsTrue, ◌↔◌}
 use Rattle.pvs_terms.specs.Tree.{Tree, Leaf, Var, Name, Bind, Join, Project, If, Ref, Own, Formal, Inst, Trees, none, more, plain_eq, sort_eq, binder_eq, joint_eq, projection_eq, tree_eq, ref_eq, trees_eq}
 use Rattle.pvs_terms.specs.declared.shape.Plain.{Plain}
 use Rattle.pvs_terms.specs.declared.shape.Plain.TheVariants.{BoolType, Yes, No}
@@ -170,3 +170,13 @@ ref_eq-decided b r q f g = go b (ref_eq r q) f g (ref_eq-true r q) (λ e. subst 
 pub ref_eq_tells : (b : Bool) (r q : Ref) → b ≡ ref_eq r q → ((b ≡ true) × (r ≡ q)) ⊎ ((b ≡ false) × (r ≡ q → ⊥))
 ref_eq_tells true r q h = inl (refl, ref_eq-true r q (sym h))
 ref_eq_tells false r q h = inr (refl, λ e. cc (h, subst (λ x. ref_eq r x ≡ true) e (ref_eq-same r)))
+
+-- the tests are true exactly at what is equal
+pub tree_eq_equal : (b : Bool) (t u : Tree) → b ≡ tree_eq t u → IsTrue b ↔ (t ≡ u)
+tree_eq_equal b t u h = (λ e. tree_eq-true t u (sym h ∙ e), λ e. h ∙ subst (λ x. tree_eq t x ≡ true) e (tree_eq-same t))
+
+pub ref_eq_equal : (b : Bool) (r q : Ref) → b ≡ ref_eq r q → IsTrue b ↔ (r ≡ q)
+ref_eq_equal b r q h = (λ e. ref_eq-true r q (sym h ∙ e), λ e. h ∙ subst (λ x. ref_eq r x ≡ true) e (ref_eq-same r))
+
+pub bytes_eq_equal : (b : Bool) (s t : List ℕ) → b ≡ bytes_eq s t → IsTrue b ↔ (s ≡ t)
+bytes_eq_equal b s t h = (λ e. (bytes_eq-Decides s t).0 (sym h ∙ e), λ e. h ∙ (bytes_eq-Decides s t).1 e)

@@ -1,4 +1,5 @@
 pub mod Tree
+pub mod Sorts
 pub mod Shapes
 pub mod Stored
 pub mod Measures

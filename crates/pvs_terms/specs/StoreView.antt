@@ -1,9 +1,9 @@
 -- What is seen of a store, and what holds of it.
 use Rattle.std.specs.Prelude.{◌≡◌, ℕ, ◌<◌, List, [], ◌∷◌, map, length, slice_index_or}
 use Rattle.pvs_terms.specs.Tree.{Text, IsWithinLimits, Const, AreClosed, ref_actuals}
-use Rattle.pvs_terms.specs.declared.store.Entry.{Entry}
+use Rattle.std.specs.Map.{keys_of}
 use Rattle.pvs_terms.specs.declared.store.RefEntry.{RefEntry}
-use Rattle.pvs_terms.specs.Stored.{Stored, Reference, theory_in, tree_at, ref_at, HasParts, KindIn, MayHave, IsRef, node_tree, given_ref, AllBelow}
+use Rattle.pvs_terms.specs.Stored.{Stored, Reference, theory_in, tree_at, ref_at, HasParts, KindIn, MayHave, IsNode, IsRef, node_tree, given_ref, AllBelow}
 use Rattle.pvs_terms.specs.declared.measure.Measure.{Measure}
 use Rattle.pvs_terms.specs.declared.node.RefKind.{RefKind}
 use Rattle.pvs_terms.specs.declared.node.Node.{Node}
@@ -11,18 +11,19 @@ use Rattle.pvs_terms.specs.declared.shape.Shape.{Shape}
 use Rattle.pvs_terms.specs.declared.shape.Shape.TheVariants as shape
 use Rattle.pvs_terms.specs.Shapes.{shape_of}
 use Rattle.pvs_terms.specs.Measures.{measure_of, ref_measure}
+use Rattle.pvs_terms.specs.Sorts.{IsSorted, IsSortedRef}
 
 abbrev pub reference_of : List Text → RefEntry → Reference
 reference_of ts r = record { kind = r.kind; theory = theory_in ts r.kind; actuals = r.actuals.items }
 
-abbrev pub stored : List Text → List Entry → List RefEntry → Stored
-stored ts es rs = record { names = ts; nodes = map (λ e. e.node) es; refs = map (reference_of ts) rs }
+abbrev pub stored : List Text → List (Node × Measure) → List RefEntry → Stored
+stored ts es rs = record { names = ts; nodes = keys_of es; refs = map (reference_of ts) rs }
 
 -- an entry is right about the tree that it stands for, and its parts are older
-pub record IsRight (s : Stored) (i : ℕ) (e : Entry) : Type 0 where
-  pub tree : tree_at s i ≡ node_tree s e.node
-  pub parts : HasParts i (length s.refs) (shape_of e.node)
-  pub measure : e.measure ≡ measure_of (tree_at s i)
+pub record IsRight (s : Stored) (i : ℕ) (e : Node × Measure) : Type 0 where
+  pub tree : tree_at s i ≡ node_tree s e.0
+  pub parts : HasParts i (length s.refs) (shape_of e.0)
+  pub measure : e.1 ≡ measure_of (tree_at s i)
   pub fits : IsWithinLimits (tree_at s i)
 
 -- the actuals of references are nodes
@@ -52,12 +53,15 @@ pub record IsRightRef (s : Stored) (r : ℕ) (e : RefEntry) : Type 0 where
   pub closed : AreClosed (ref_actuals (ref_at s r))
   pub fits : IsWithinLimits (Const (ref_at s r))
 
--- what holds of the lists of a store; equal references have equal numbers
-pub record IsSound (ts : List Text) (es : List Entry) (rs : List RefEntry) : Type 0 where
+-- what holds of the lists of a store; equal trees and equal references have equal numbers
+pub record IsSound (ts : List Text) (es : List (Node × Measure)) (rs : List RefEntry) : Type 0 where
   pub actuals : ActualsBelow (length (stored ts es rs).nodes) (stored ts es rs).refs
   pub names : NamesBelow (length (stored ts es rs).refs) (stored ts es rs).nodes
+  pub sorted : (i : ℕ) → i < length (stored ts es rs).nodes → IsSorted (tree_at (stored ts es rs) i)
+  pub sorted_refs : (r : ℕ) → r < length (stored ts es rs).refs → IsSortedRef (ref_at (stored ts es rs) r)
+  pub distinct_nodes : (i j : ℕ) → IsNode (stored ts es rs) i → IsNode (stored ts es rs) j → tree_at (stored ts es rs) i ≡ tree_at (stored ts es rs) j → i ≡ j
   pub distinct : (r q : ℕ) → r < length rs → q < length rs → ref_at (stored ts es rs) r ≡ ref_at (stored ts es rs) q → r ≡ q
-  pub nodes : (i : ℕ) (e : Entry) → i < length es → e ≡ slice_index_or es i e → IsRight (stored ts es rs) i e
+  pub nodes : (i : ℕ) (e : Node × Measure) → i < length es → e ≡ slice_index_or es i e → IsRight (stored ts es rs) i e
   pub refs : (r : ℕ) (e : RefEntry) → r < length rs → e ≡ slice_index_or rs r e → IsRightRef (stored ts es rs) r e
 
 -- a reference that may be added

@@ -57,7 +57,7 @@ shape_among rs ts (shape.Join o a b) = tree.Join o (tree_among ts a) (tree_among
 shape_among rs ts (shape.Project o a) = tree.Project o (tree_among ts a)
 shape_among rs ts (shape.Choose a b c) = tree.If (tree_among ts a) (tree_among ts b) (tree_among ts c)
 
--- the trees of these nodes, behind the trees before them
+-- the trees of these nodes, after the trees before them
 abbrev pub trees_after : List Reference → List Tree → List Node → List Tree
 trees_after rs ts [] = ts
 trees_after rs ts (n ∷ ns) = trees_after rs (ts ++ shape_among rs ts (shape_of n) ∷ []) ns

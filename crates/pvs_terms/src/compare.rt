@@ -1,9 +1,8 @@
 //! Whether two numbers stand for one tree or one reference.
 
-ghost use Rattle.std.specs.Prelude.{◌≡◌, length};
+ghost use Rattle.std.specs.Prelude.{◌≡◌, ◌↔◌, IsTrue, length};
 
 use crate::node::{Id, RefId, RefKind};
-use crate::shape::Shape;
 use crate::store::Store;
 
 impl Store {
@@ -14,52 +13,24 @@ impl Store {
     pub fn same_reference(&self, r: RefId, q: RefId) -> bool
         requires first { IsRef self.now r }
         requires second { IsRef self.now q }
-        ensures { result ≡ ref_eq (ref_at self.now r) (ref_at self.now q) }
+        ensures value { result ≡ ref_eq (ref_at self.now r) (ref_at self.now q) }
+        ensures equal { IsTrue result ↔ (ref_at self.now r ≡ ref_at self.now q) }
     {
         let _refs = &self.refs;
         let equal = r == q;
         equal
     }
 
-    /// Whether the numbers stand for one tree.
+    /// Whether the numbers stand for one tree. Equal trees have equal numbers.
     pub fn same(&self, a: Id, b: Id) -> bool
         requires first { IsNode self.now a }
         requires second { IsNode self.now b }
-        ensures { result ≡ tree_eq (tree_at self.now a) (tree_at self.now b) }
+        ensures value { result ≡ tree_eq (tree_at self.now a) (tree_at self.now b) }
+        ensures equal { IsTrue result ↔ (tree_at self.now a ≡ tree_at self.now b) }
     {
-        if a == b {
-            return true;
-        }
-        match self.view(a).shape() {
-            Shape::Leaf(x) => match self.view(b).shape() {
-                Shape::Leaf(y) => x == y,
-                _ => false,
-            },
-            Shape::Index(m) => match self.view(b).shape() {
-                Shape::Index(n) => m == n,
-                _ => false,
-            },
-            Shape::Name(s, r) => match self.view(b).shape() {
-                Shape::Name(t, q) => s == t && self.same_reference(r, q),
-                _ => false,
-            },
-            Shape::Bind(x, a, b1) => match self.view(b).shape() {
-                Shape::Bind(y, c, d) => x == y && self.same(a, c) && self.same(b1, d),
-                _ => false,
-            },
-            Shape::Join(x, a, b1) => match self.view(b).shape() {
-                Shape::Join(y, c, d) => x == y && self.same(a, c) && self.same(b1, d),
-                _ => false,
-            },
-            Shape::Project(x, a) => match self.view(b).shape() {
-                Shape::Project(y, c) => x == y && self.same(a, c),
-                _ => false,
-            },
-            Shape::Choose(x, y, z) => match self.view(b).shape() {
-                Shape::Choose(u, v, w) => self.same(x, u) && self.same(y, v) && self.same(z, w),
-                _ => false,
-            },
-        }
+        let _nodes = &self.nodes;
+        let equal = a == b;
+        equal
     }
 
     /// Whether the lists stand for the same trees.

@@ -7,7 +7,7 @@ use std::alloc::{AllocError, AllocFailed};
 pub enum MakeFault {
     /// The tree passes the limit of depth, of size or of indices.
     TooLarge,
-    /// Want of memory.
+    /// Out of memory.
     Memory,
 }
 

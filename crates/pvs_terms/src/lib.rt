@@ -6,6 +6,7 @@ mod fault;
 mod measure;
 mod names;
 mod node;
+mod nodes;
 mod reference;
 mod shape;
 mod store;

@@ -88,7 +88,7 @@ impl RefId {
 /// variable in their second part. A tuple of k components is `Tup(k, first, others)`, and its
 /// type, its first component `Fst(k, ..)` and the tuple of the others `Snd(k, ..)` have the same
 /// number.
-#[derive(Clone, Copy, Debug, PartialEq, Eq)]
+#[derive(Clone, Copy, Debug, PartialEq, Eq, Hash)]
 pub enum Node {
     TBool,
     TName(RefId),
@@ -110,7 +110,7 @@ pub enum Node {
 
 /// What a reference is, but for the actuals of an instance: an entry of the theory itself, a
 /// formal of it, both by number, or an entry of an instance of the theory of that name.
-#[derive(Clone, Copy, Debug, PartialEq, Eq)]
+#[derive(Clone, Copy, Debug, PartialEq, Eq, Hash)]
 pub enum RefKind {
     Own(u32),
     Formal(u32),

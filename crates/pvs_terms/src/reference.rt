@@ -14,6 +14,7 @@ impl Store {
     ghost use Rattle.pvs_terms.specs.Stored.{tree_at, ref_at, trees_at, IsNode, IsRef, AreNodes, AllBelow, KindIn, MayHave};
     ghost use Rattle.pvs_terms.specs.Stored.{ref_of, given_ref, StandsRef, Extends};
     ghost use Rattle.pvs_terms.specs.Measures.{ref_measure, trees_measure, IsRoomy};
+    ghost use Rattle.pvs_terms.specs.Sorts.{AreSorted};
     ghost use Rattle.pvs_terms.specs.StoreView.{IsNew};
 
     /// What the reference is, but for its actuals.
@@ -35,8 +36,10 @@ impl Store {
         ensures trees { trees_at self.now result.now ≡ ref_actuals (ref_at self.now r) }
         ensures nodes { AreNodes self.now result.now }
 
-        // None has a free index, and a node on the reference is within the limits.
+        // None has a free index, each has parts of the right sorts, and a node on the reference is
+        // within the limits.
         ensures closed { AreClosed (ref_actuals (ref_at self.now r)) }
+        ensures sorted { AreSorted (ref_actuals (ref_at self.now r)) }
         ensures fits { IsWithinLimits (Const (ref_at self.now r)) }
     {
         let entry = &self.refs[r.number() as usize];

@@ -6,17 +6,11 @@ use crate::fault::MakeFault;
 use crate::measure::Measure;
 use crate::names::Names;
 use crate::node::{Id, Name, Node, RefId, RefKind};
+use crate::nodes::Nodes;
 use crate::shape::Shape;
 use smallvec::SmallVec;
 use std::alloc::{AllocError, Global};
 use std::marker::Model;
-
-/// A node and the measure of its tree.
-#[derive(Clone, Copy, Debug)]
-pub(crate) struct Entry {
-    pub(crate) node: Node,
-    pub(crate) measure: Measure,
-}
 
 /// A reference and its measure.
 #[derive(Drop)]
@@ -31,7 +25,7 @@ pub(crate) struct RefEntry {
 #[derive(Drop)]
 pub struct Store {
     pub(crate) names: Names,
-    pub(crate) entries: Vec<Entry>,
+    pub(crate) nodes: Nodes,
     pub(crate) refs: Vec<RefEntry>,
     pub(crate) alloc: Global,
 }
@@ -43,9 +37,9 @@ impl Model for Store {
 
     ghost use Rattle.pvs_terms.specs.StoreView.{stored, IsSound};
 
-    ghost view = { λ s. stored s.names s.entries.items s.refs.items };
+    ghost view = { λ s. stored s.names s.nodes s.refs.items };
 
-    ghost invariant = { λ s. IsSound s.names s.entries.items s.refs.items };
+    ghost invariant = { λ s. IsSound s.names s.nodes s.refs.items };
 }
 
 impl Store {
@@ -55,6 +49,7 @@ impl Store {
     ghost use Rattle.pvs_terms.specs.Stored.{node_tree, ref_of, given_ref, Stands, StandsRef, StandsName, Extends};
     ghost use Rattle.pvs_terms.specs.Measures.{measure_of, ref_measure, trees_measure, above, beside, under, IsSmall};
     ghost use Rattle.pvs_terms.specs.Shapes.{shape_of};
+    ghost use Rattle.pvs_terms.specs.Sorts.{HasSorts, IsSorted};
 
     /// A store without nodes, names and references.
     pub fn new(alloc: Global) -> Result<Store, AllocError>
@@ -62,7 +57,7 @@ impl Store {
     {
         Ok(Store {
             names: Names::new(alloc),
-            entries: Vec::new(alloc),
+            nodes: Nodes::new(alloc),
             refs: Vec::new(alloc),
             alloc,
         })
@@ -101,7 +96,8 @@ impl Store {
     pub fn same_name(&self, a: Name, b: Name) -> bool
         requires first { IsName self.now a }
         requires second { IsName self.now b }
-        ensures { result ≡ bytes_eq (text_at self.now a) (text_at self.now b) }
+        ensures value { result ≡ bytes_eq (text_at self.now a) (text_at self.now b) }
+        ensures equal { IsTrue result ↔ (text_at self.now a ≡ text_at self.now b) }
     {
         self.names.same(a.number(), b.number())
     }
@@ -111,11 +107,12 @@ impl Store {
         requires { IsNode self.now id }
         ensures tree { tree_at self.now id ≡ node_tree self.now result }
 
-        // Its parts are older, and its tree is within the limits.
+        // Its parts are older, and its tree is within the limits and has parts of the right sorts.
         ensures parts { HasParts id (length self.now.refs) (shape_of result) }
         ensures fits { IsWithinLimits (tree_at self.now id) }
+        ensures sorted { IsSorted (tree_at self.now id) }
     {
-        self.entries[id.number() as usize].node
+        self.nodes.entry(id.number()).0
     }
 
     pub(crate) fn measure_at(&self, id: Id) -> Measure
@@ -123,7 +120,7 @@ impl Store {
         ensures value { result ≡ measure_of (tree_at self.now id) }
         ensures small { IsSmall result }
     {
-        self.entries[id.number() as usize].measure
+        self.nodes.entry(id.number()).1
     }
 
     /// The depth of the tree. A leaf has depth 1.
@@ -213,20 +210,35 @@ impl Store {
         }
     }
 
-    /// The number of a node, which stands for its tree.
+    /// The number of a node, which stands for its tree. Its parts are nodes of the store, a type
+    /// where a type stands and a term where a term stands, and its number of components is at
+    /// least 2.
     pub fn make(&mut self, node: Node) -> Result<Id, MakeFault>
-        requires { PartsIn self.old node }
+        requires parts { PartsIn self.old node }
+        requires sorted { HasSorts (node_tree self.old node) }
         ensures ok { IfOk result (Stands self.new (node_tree self.old node)) }
+
+        // Equal trees have equal numbers.
+        ensures only { IfOk result (λ i. (j : ℕ) → IsNode self.new j → tree_at self.new j ≡ node_tree self.old node → j ≡ i) }
         ensures large { result ≡ Err MakeFault.TooLarge → ¬ IsWithinLimits (node_tree self.old node) }
         ensures kept { Extends self.old self.new }
         ensures err { OnErr result (self.new ≡ self.old) }
     {
+        if let Some(at) = self.nodes.find(&node) {
+            return Ok(Id::new(at));
+        }
         let measure = self.measure(&node);
         if !measure.is_small() {
             return Err(MakeFault::TooLarge);
         }
-        let id = Id::new(self.entries.len() as u64);
-        self.entries.push(Entry { node, measure })?;
-        Ok(id)
+        let at = self.nodes.push(node, measure)?;
+        Ok(Id::new(at))
+    }
+
+    /// Equal trees have equal numbers.
+    pub fn one_node_per_tree(&self)
+        ensures { (i j : ℕ) → IsNode self.now i → IsNode self.now j → tree_at self.now i ≡ tree_at self.now j → i ≡ j }
+    {
+        let _nodes = &self.nodes;
     }
 }

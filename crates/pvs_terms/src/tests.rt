@@ -1,7 +1,8 @@
 //! Each public call once with its answer, and the limits.
 
 ghost use Rattle.std.specs.Prelude.{◌≡◌, ◌<◌, length, IfOk};
-ghost use Rattle.pvs_terms.specs.Stored.{IsNode, Extends};
+ghost use Rattle.pvs_terms.specs.Sorts.{IsTerm};
+ghost use Rattle.pvs_terms.specs.Stored.{IsNode, tree_at, Extends};
 
 use crate::{Id, MakeFault, Node, RefKind, Store};
 use std::alloc::AllocError;
@@ -59,8 +60,10 @@ fn numbers_stand_for_what_was_made(rt: HostRuntime) -> Result<(), Fail> {
 
 /// The conjunction of a formula with itself.
 fn doubled(store: &mut Store, formula: Id) -> Result<Id, MakeFault>
-    requires { IsNode store.old formula }
+    requires node { IsNode store.old formula }
+    requires term { IsTerm (tree_at store.old formula) }
     ensures ok { IfOk result (IsNode store.new) }
+    ensures term { IfOk result (λ id. IsTerm (tree_at store.new id)) }
     ensures kept { Extends store.old store.new }
 {
     let falsity = store.make(Node::False)?;

@@ -1,7 +1,7 @@
 use Rattle.std.proofs.Common.{◌≡◌, ◌∙◌, Bool, true, false, not, refl, ap, sym}
 use Rattle.std.proofs.lemmas.Result.{IfOk-weaker}
 use Rattle.pvs_syntax.specs.Words.{spelling}
-use Rattle.pvs_cli.specs.Theories.{has_name, part_of, theory_names, theory_part, told_entries}
+use Rattle.pvs_cli.specs.Theories.{has_name, part_of, theory_names, theory_part, accepted_entries}
 use Rattle.pvs_cli.proofs.theories.next_part.Goals as goal
 
 not-not : (b : Bool) → not (not b) ≡ b
@@ -16,5 +16,5 @@ returns-in_ok-is_new-in-Theory-clause-part c = λ earlier names.
     let again : not c.in_ok-is_new-in-Theory.is_new ≡ has_name (spelling text t.name) (theory_names text earlier) =
     ap not told ∙ not-not (has_name c.spelling_of.result.now (theory_names text earlier)) ∙ ap (λ n. has_name n (theory_names text earlier)) c.spelling_of.ensures in
     IfOk-weaker c.theory_part.result _ _
-    (λ p h. h ∙ (ap (λ b. theory_part (spelling text t.name) (told_entries text b t)) again ∙ ap (part_of text earlier) (sym c.in-Theory.is)))
+    (λ p h. h ∙ (ap (λ b. theory_part (spelling text t.name) (accepted_entries text b t)) again ∙ ap (part_of text earlier) (sym c.in-Theory.is)))
     c.theory_part.ensures

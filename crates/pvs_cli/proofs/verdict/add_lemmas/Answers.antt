@@ -1,5 +1,5 @@
 use Rattle.std.proofs.Common.{◌<◌, ◌∙◌, length, take, rules, ap, sym}
-use Rattle.pvs_cli.specs.LemmaIndex.{tree_at}
+use Rattle.pvs_cli.specs.LemmaIndex.{lemma_tree}
 use Rattle.pvs_cli.specs.Shown.{entries_shown, entry_shown}
 use Rattle.pvs_cli.specs.Verdicts.{or_else, theory_lemma}
 use Rattle.pvs_cli.proofs.LemmaLaws.{entries_more}
@@ -13,5 +13,5 @@ loop-entry-preserved c = λ n.
     let i = c.loop-entry.entry-index in
     let e = c.entry-item.result in
     let inside : c.loop-entry.entry-index < length c.args.entries.now = search rules in
-    entries_more c.args.theory.now (entries_shown text (take i es)) (entry_shown text e) n (tree_at c.args.formulas.now n) (tree_at c.loop-entry.formulas n) (tree_at c.add_lemma.new.formulas n) (c.loop-entry.invariant n) (c.in_ok-add_lemma.ensures n)
-    ∙ ap (λ fs. or_else (tree_at c.args.formulas.now n) (theory_lemma c.args.theory.now fs n)) (sym (shown_more (entry_shown text) es i e inside c.entry-item.is))
+    entries_more c.args.theory.now (entries_shown text (take i es)) (entry_shown text e) n (lemma_tree c.args.formulas.now n) (lemma_tree c.loop-entry.formulas n) (lemma_tree c.add_lemma.new.formulas n) (c.loop-entry.invariant n) (c.in_ok-add_lemma.ensures n)
+    ∙ ap (λ fs. or_else (lemma_tree c.args.formulas.now n) (theory_lemma c.args.theory.now fs n)) (sym (shown_more (entry_shown text) es i e inside c.entry-item.is))

@@ -1,5 +1,5 @@
 use Rattle.std.proofs.Common.{◌<◌, ◌∙◌, length, take, rules, ap, sym}
-use Rattle.pvs_cli.specs.LemmaIndex.{tree_at}
+use Rattle.pvs_cli.specs.LemmaIndex.{lemma_tree}
 use Rattle.pvs_cli.specs.Shown.{part_shown, parts_shown}
 use Rattle.pvs_cli.specs.Verdicts.{lemma_in}
 use Rattle.pvs_cli.proofs.LemmaLaws.{parts_more}
@@ -13,5 +13,5 @@ loop-part-preserved c = λ n.
     let i = c.loop-part.part-index in
     let p = c.part-item.result in
     let inside : c.loop-part.part-index < length c.args.parts.now = search rules in
-    parts_more (parts_shown text (take i ps)) (part_shown text p) n (tree_at c.loop-part.formulas n) (tree_at c.add_part.new.formulas n) (c.loop-part.invariant n) (c.in_ok-add_part.ensures n)
+    parts_more (parts_shown text (take i ps)) (part_shown text p) n (lemma_tree c.loop-part.formulas n) (lemma_tree c.add_part.new.formulas n) (c.loop-part.invariant n) (c.in_ok-add_part.ensures n)
     ∙ ap (λ qs. lemma_in qs n) (sym (shown_more (part_shown text) ps i p inside c.part-item.is))

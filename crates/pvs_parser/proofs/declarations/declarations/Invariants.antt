@@ -1,9 +1,9 @@
 use Rattle.std.proofs.Common.{◌≡◌, ◌-◌, [], length}
-use Rattle.pvs_parser.specs.Language.{bounded}
-use Rattle.pvs_parser.specs.Steps.{declares}
+use Rattle.pvs_parser.specs.Language.{language_limit}
+use Rattle.pvs_parser.specs.Steps.{declaration_in}
 use Rattle.pvs_parser.specs.UnitDescent as spec
 use Rattle.pvs_parser.proofs.declarations.declarations.Given as goal
 
 -- reading goes on from here
 abbrev pub invariant-loop : goal.invariant-loop
-invariant-loop l = spec.many_from (declares bounded l.part) (length l.fn.tokens) [] l.fn.tokens ≡ spec.many_from (declares bounded l.part) (l.end - l.counter) l.found l.rest
+invariant-loop l = spec.many_from (declaration_in language_limit l.part) (length l.fn.tokens) [] l.fn.tokens ≡ spec.many_from (declaration_in language_limit l.part) (l.end - l.counter) l.found l.rest

@@ -1,5 +1,8 @@
-use Rattle.pvs_parser.proofs.Texts.{one_span_answer}
+use Rattle.pvs_parser.proofs.Texts.{one_span_answer, has_span_answer}
 use Rattle.pvs_parser.proofs.parse.one_span_answer.Goals as goal
 
-pub returns : goal.returns
-returns c = one_span_answer
+pub returns-clause-some : goal.returns-clause-some
+returns-clause-some c = has_span_answer
+
+pub returns-clause-only : goal.returns-clause-only
+returns-clause-only c = one_span_answer

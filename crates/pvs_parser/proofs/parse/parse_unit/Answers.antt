@@ -1,4 +1,4 @@
-use Rattle.pvs_parser.proofs.Answers.{unit_answers, unit_only, unit_first, unit_spans, unit_short}
+use Rattle.pvs_parser.proofs.Answers.{unit_answers, unit_only, unit_first, unit_spans, unit_short, unit_is_tree}
 use Rattle.pvs_parser.proofs.parse.parse_unit.Goals as goal
 
 pub returns-clause-answer : goal.returns-clause-answer
@@ -15,3 +15,6 @@ returns-clause-only c = unit_only c.args.text.now c.read_text.result c.read_text
 
 pub returns-clause-first : goal.returns-clause-first
 returns-clause-first c = unit_first c.args.text.now c.read_text.result c.read_text.ensures
+
+pub returns-clause-tree : goal.returns-clause-tree
+returns-clause-tree c = unit_is_tree c.args.text.now c.read_text.result c.read_text.ensures

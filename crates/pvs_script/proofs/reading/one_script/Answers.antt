@@ -1,4 +1,4 @@
-use Rattle.pvs_script.proofs.Taken.{one_whole}
+use Rattle.pvs_script.proofs.Completeness.{one_whole}
 use Rattle.pvs_script.proofs.reading.one_script.Goals as goal
 
 pub returns : goal.returns

@@ -3,7 +3,13 @@ use Rattle.pvs_terms.specs.Stored.{tree_at}
 use Rattle.pvs_terms.proofs.StoredLaws.{extends_trans}
 use Rattle.pvs_subst.specs.Replace.{put_at}
 use Rattle.pvs_subst.proofs.ReplaceLaws.{put_at-closed}
-use Rattle.pvs_subst.proofs.Kept.{stands_unchanged, choose_stands, stays}
+use Rattle.pvs_terms.proofs.SortLaws.{has_sorts}
+use Rattle.pvs_subst.proofs.SortLaws.{HasSorts-put_shape}
+use Rattle.pvs_subst.proofs.Kept.{stands_unchanged, choose_stands, stays, makeable}
+use Rattle.std.proofs.Common.{◌∙◌, sym, subst, ap}
+use Rattle.pvs_terms.specs.Sorts.{HasSorts}
+use Rattle.pvs_terms.specs.Stored.{shape_tree}
+use Rattle.pvs_subst.specs.Compound.{IsCompound}
 use Rattle.pvs_subst.proofs.putting.+put.Goals as goal
 
 pub put_below-returns-then-free_below-from-clause-ok : goal.put_below-returns-then-free_below-from-clause-ok
@@ -24,3 +30,12 @@ pub put_parts-returns-in_ok-c-in-Choose-clause-ok : goal.put_parts-returns-in_ok
 put_parts-returns-in_ok-c-in-Choose-clause-ok t c =
     rw c.in-Choose.is (choose_stands (λ x y. put_at x y c.args.at) c.in-Choose.a c.in-Choose.b c.in-Choose.c c.args.arg c.in_ok-a-in-Choose.ensures.kept c.in_ok-b-in-Choose.ensures.kept c.in_ok-c-in-Choose.ensures.kept
     (search rules) (search rules) c.requires.arg c.in_ok-a-in-Choose.ensures.ok c.in_ok-b-in-Choose.ensures.ok c.in_ok-c-in-Choose.ensures.ok)
+
+pub put_below-make-requires : goal.put_below-make-requires
+put_below-make-requires t c =
+    let x = c.shape.result in
+    let tree = c.view-node.ensures.tree ∙ ap (shape_tree c.args.store.now) (sym c.shape.ensures) in
+    let sorts = subst HasSorts tree (has_sorts (tree_at c.args.store.now c.args.body) c.view-node.ensures.sorted) in
+    let compound : IsCompound x = search rules in
+    let made = makeable c.node.result c.in_ok-parts-in_default.ensures.ok c.node.ensures (HasSorts-put_shape c.args.store.now x (tree_at c.args.store.now c.args.arg) c.args.at compound c.requires.term sorts) in
+    record { parts = made.parts; sorted = made.sorted }

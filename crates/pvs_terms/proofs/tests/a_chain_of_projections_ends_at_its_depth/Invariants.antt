@@ -1,5 +1,6 @@
-use Rattle.pvs_terms.specs.Stored.{IsNode}
+use Rattle.pvs_terms.specs.Sorts.{IsTerm}
+use Rattle.pvs_terms.specs.Stored.{IsNode, tree_at}
 use Rattle.pvs_terms.proofs.tests.a_chain_of_projections_ends_at_its_depth.Given as goal
 
 abbrev pub invariant-loop : goal.invariant-loop
-invariant-loop _ l = IsNode l.store l.part
+invariant-loop _ l = IsNode l.store l.part × IsTerm (tree_at l.store l.part)

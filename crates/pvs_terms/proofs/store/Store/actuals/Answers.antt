@@ -1,4 +1,6 @@
-use Rattle.pvs_terms.proofs.StoreLaws.{ref_seen}
+use Rattle.pvs_terms.specs.Stored.{ref_at}
+use Rattle.pvs_terms.proofs.SortLaws.{actuals_sorted}
+use Rattle.pvs_terms.proofs.StoreLaws.{ref_seen, ref_sorted}
 use Rattle.pvs_terms.proofs.store.Store.actuals.Goals as goal
 
 pub returns-clause-trees : goal.returns-clause-trees
@@ -16,3 +18,6 @@ returns-clause-closed c = (ref_seen c.args.r c.index-entry.result.now c.self.inv
 
 pub returns-clause-fits : goal.returns-clause-fits
 returns-clause-fits c = (ref_seen c.args.r c.index-entry.result.now c.self.invariant c.self.view_is c.requires (rw (← c.number.ensures) c.index-entry.ensures)).fits
+
+pub returns-clause-sorted : goal.returns-clause-sorted
+returns-clause-sorted c = actuals_sorted (ref_at c.args.self.now c.args.r) (ref_sorted c.args.r c.self.invariant c.self.view_is c.requires)

@@ -3,7 +3,7 @@ use Rattle.pvs_terms.specs.StoreView.{stored}
 use Rattle.pvs_terms.proofs.StoreLaws.{pushed_ref_is, IsPushedRef, refs_differ}
 use Rattle.pvs_terms.proofs.store.Store.push_reference.Goals as goal
 
-made : (c : goal.In_ok-push) → IsPushedRef c.args.self.now (stored c.self.inside.names c.self.inside.entries.items c.push.new.self.items) c.args.kind c.args.actuals.now c.self.inside.names c.self.inside.entries.items c.push.new.self.items c.new-r.result
+made : (c : goal.In_ok-push) → IsPushedRef c.args.self.now (stored c.self.inside.names c.self.inside.nodes c.push.new.self.items) c.args.kind c.args.actuals.now c.self.inside.names c.self.inside.nodes c.push.new.self.items c.new-r.result
 made c =
     let at : c.new-r.result ≡ length c.self.inside.refs.items = omega (arith, c.new-r.ensures, c.len.ensures, c.self.inside.refs.ok.0) in
     pushed_ref_is (record { kind = c.args.kind; actuals = c.in_ok-copied.copied; measure = c.args.measure }) c.self.invariant c.self.view_is c.in_ok-push.ensures.items c.in_ok-copied.ensures.ok c.requires at

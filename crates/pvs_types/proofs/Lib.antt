@@ -1,0 +1,14 @@
+pub mod LimitsLaws
+pub mod BySizeLaws
+pub mod ProperTermLaws
+pub mod SizeLaws
+pub mod FormsLaws
+pub mod OutcomeLaws
+pub mod FormsSound
+pub mod CoerceSound
+pub mod Satisfaction
+pub mod TypingSound
+pub mod CoerceLaws
+pub mod UsesLaws
+pub mod Examples
+pub mod ExampleModel

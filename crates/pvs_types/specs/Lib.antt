@@ -1,0 +1,11 @@
+pub mod Limits
+pub mod Outcome
+pub mod BySize
+pub mod Forms
+pub mod Coerce
+pub mod Symbols
+pub mod Typing
+pub mod ProperTerms
+pub mod Soundness
+pub mod Uses
+pub mod Laws
