@@ -1,0 +1,5 @@
+pub mod Lists
+pub mod NumberLaws
+pub mod PremiseLaws
+pub mod Refutations
+pub mod OutcomeLaws
