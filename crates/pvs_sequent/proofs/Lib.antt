@@ -3,3 +3,4 @@ pub mod NumberLaws
 pub mod PremiseLaws
 pub mod Refutations
 pub mod OutcomeLaws
+pub mod ExtendsLaws
