@@ -1,7 +1,7 @@
 -- A store that grows leaves sequents standing for what they stood for.
-use Rattle.std.proofs.Common.{◌≡◌, ◌∙◌, refl, sym, ap, ap₂, ℕ, List, [], ◌∷◌}
+use Rattle.std.proofs.Common.{◌≡◌, ◌∙◌, refl, ap, ap₂, ℕ, List, [], ◌∷◌}
 use Rattle.pvs_terms.specs.Tree.{Tree}
-use Rattle.pvs_terms.specs.Stored.{Stored, tree_at, AreNodes, Extends}
+use Rattle.pvs_terms.specs.Stored.{Stored, AreNodes, Extends}
 use Rattle.pvs_terms.proofs.StoredLaws.{nodes_extend}
 use Rattle.pvs_sequent.specs.Sequents.{Sequent}
 use Rattle.pvs_sequent.specs.Numbered.{Numbered}

@@ -1,12 +1,12 @@
 -- Laws of sequents of numbers and what they stand for.
-use Rattle.std.proofs.Common.{◌≡◌, ◌∙◌, ◌<◌, ◌||◌, refl, sym, ap, ap₂, subst, arith, ℕ, zero, suc, Bool, List, [], ◌∷◌, ◌++◌, length, get_or, remove, reverse, slice_get, Option, Some, None}
+use Rattle.std.proofs.Common.{◌≡◌, ◌∙◌, ◌<◌, ◌||◌, refl, sym, ap, ap₂, subst, arith, ℕ, zero, suc, Bool, List, [], ◌∷◌, ◌++◌, length, get_or, remove, reverse, slice_get, Option}
 use Rattle.std.specs.List.{list_any}
 use Rattle.std.proofs.lemmas.Grind.{reverse_onto}
 use Rattle.pvs_terms.specs.Tree.{Tree, tree_eq}
 use Rattle.pvs_terms.specs.Stored.{Stored, tree_at, IsNode, AreNodes}
 use Rattle.pvs_sequent.specs.declared.place.Place.{Place}
 use Rattle.pvs_sequent.specs.declared.place.Place.TheVariants as place
-use Rattle.pvs_sequent.specs.Sequents.{Sequent, formula_at, without, is_among, is_closing, close_sequent, is_closed}
+use Rattle.pvs_sequent.specs.Sequents.{formula_at, without, is_among, is_closing, close_sequent, is_closed}
 use Rattle.pvs_sequent.specs.declared.place.Side.TheVariants as side
 use Rattle.pvs_sequent.specs.Numbered.{Numbered}
 use Rattle.pvs_sequent.specs.Numbers.{all_at, sequent_at, IsSequent, IsFormula, StandsFor}

@@ -1,15 +1,15 @@
 -- What is said of the outcome of a row, line by line, and what follows for the premises of its step.
-use Rattle.std.proofs.Common.{◌≡◌, ◌∙◌, refl, sym, ap, subst, ◌⊎◌, inl, inr, Bool, true, false, not, cond, List, [], ◌∷◌, ◌++◌, Option, Some, None, Ok}
+use Rattle.std.proofs.Common.{◌≡◌, refl, subst, ◌⊎◌, inl, inr, Bool, true, false, not, cond, List, [], ◌∷◌, ◌++◌, Option, Some, None, Ok}
 use Rattle.pvs_base.specs.declared.code.Code.{Code}
 use Rattle.pvs_terms.specs.Tree.{Tree}
 use Rattle.pvs_subst.specs.Contexts.{Owed}
 use Rattle.pvs_sem.specs.Truth.{Interpretation, truth}
 use Rattle.pvs_sequent.specs.declared.place.Side.TheVariants as side
 use Rattle.pvs_sequent.specs.Sequents.{Sequent, add, is_closed}
-use Rattle.pvs_sequent.specs.Outcomes.{Conditions, Outcome, Refused, Accepted, after_conditions, ◌>>=◌, ◌>>◌, pure, found, only, applicable}
+use Rattle.pvs_sequent.specs.Outcomes.{Conditions, Outcome, Refused, Accepted, after_conditions, ◌>>=◌, ◌>>◌, found, only, applicable}
 use Rattle.pvs_sequent.specs.Conditions.{closed_in}
 use Rattle.pvs_sequent.specs.Premises.{Premises, still_open, kept, owed, finished}
-use Rattle.pvs_sequent.specs.Truth.{IsTrueSequent, AreTrueSequents}
+use Rattle.pvs_sequent.specs.Truth.{AreTrueSequents}
 use Rattle.pvs_sequent.proofs.Refutations.{Refutes, IsValuation, refuted_add, refuted_closed, true_not_refuted}
 
 -- each condition holds, for this notion of what it is for one to hold

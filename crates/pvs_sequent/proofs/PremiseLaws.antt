@@ -1,5 +1,5 @@
 -- Laws of lists of sequents of numbers.
-use Rattle.std.proofs.Common.{◌≡◌, ◌∙◌, refl, sym, ap, Bool, false, not, List, [], ◌∷◌, ◌++◌}
+use Rattle.std.proofs.Common.{◌≡◌, ◌∙◌, refl, sym, ap, false, List, [], ◌∷◌, ◌++◌}
 use Rattle.std.proofs.lemmas.List.{map-append}
 use Rattle.pvs_terms.specs.Stored.{Stored}
 use Rattle.pvs_sequent.specs.Sequents.{Sequent, is_closed}

@@ -1,7 +1,6 @@
 -- How a refutation of a sequent goes over to what a rule makes of it. A valuation gives each
 -- formula a truth value: that of an interpretation, and of values for the variables.
-use Rattle.std.proofs.Common.{◌≡◌, ◌∙◌, refl, sym, ap, ◌⊎◌, inl, inr, ℕ, zero, suc, Bool, true, false, not, cond, ◌&&◌, ◌||◌, List, [], ◌∷◌, ◌++◌, remove, slice_get, Some}
-use Rattle.std.specs.List.{list_any}
+use Rattle.std.proofs.Common.{◌≡◌, ◌∙◌, refl, sym, ap, ℕ, zero, suc, Bool, true, false, cond, ◌||◌, List, [], ◌∷◌, remove, slice_get, Some}
 use Rattle.std.proofs.lemmas.Bool.{true≢false}
 use Rattle.pvs_terms.specs.Tree.{Tree, True, False, tree_eq}
 use Rattle.pvs_terms.proofs.TreeLaws.{tree_eq-true, both, all_true as both_true}
@@ -10,8 +9,8 @@ use Rattle.pvs_sequent.specs.declared.place.Place.{Place}
 use Rattle.pvs_sequent.specs.declared.place.Place.TheVariants as place
 use Rattle.pvs_sequent.specs.declared.place.Side.{Side}
 use Rattle.pvs_sequent.specs.declared.place.Side.TheVariants as side
-use Rattle.pvs_sequent.specs.Sequents.{Sequent, side_of, formula_at, without, with_first, is_redundant, add, is_closing, is_among, shares, is_closed}
-use Rattle.pvs_sequent.specs.Truth.{IsTrueSequent, AreTrueSequents}
+use Rattle.pvs_sequent.specs.Sequents.{Sequent, side_of, formula_at, without, with_first, is_redundant, add, is_among, shares, is_closed}
+use Rattle.pvs_sequent.specs.Truth.{IsTrueSequent}
 
 -- each formula has this truth value
 abbrev pub AllAre : (Tree → Bool) → Bool → List Tree → Type 0

@@ -1,5 +1,5 @@
 -- Conditions, closed over what stands between them and the variables of a sequent.
-use Rattle.std.specs.Prelude.{ℕ, ◌-◌, List, [], ◌∷◌, length, take}
+use Rattle.std.specs.Prelude.{ℕ, ◌-◌, [], ◌∷◌, length, take}
 use Rattle.pvs_terms.specs.Tree.{Tree, True, Lam, Eq, If}
 use Rattle.pvs_subst.specs.Contexts.{Assumptions, Variable, Hypothesis, Owed}
 use Rattle.pvs_sequent.specs.Sequents.{Sequent}

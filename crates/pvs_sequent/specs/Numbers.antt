@@ -1,5 +1,5 @@
 -- What a sequent of numbers stands for, in a store.
-use Rattle.std.specs.Prelude.{◌≡◌, ℕ, List, [], ◌∷◌, ◌++◌, map, Option, Some, None, Result, Ok, Err}
+use Rattle.std.specs.Prelude.{◌≡◌, ℕ, List, [], ◌∷◌, map, Option, Some, None, Result, Ok, Err}
 use Rattle.pvs_base.specs.declared.code.Code.{Code}
 use Rattle.pvs_terms.specs.Tree.{Tree}
 use Rattle.pvs_terms.specs.Stored.{Stored, tree_at, IsNode, AreNodes}

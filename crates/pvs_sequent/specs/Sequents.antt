@@ -1,5 +1,5 @@
 -- Sequents of core trees: their formulas by number, and what a rule does to one.
-use Rattle.std.specs.Prelude.{zero, suc, ℤ, pos, negsuc, Bool, true, false, ◌||◌, if◌then◌else◌, List, [], ◌∷◌, remove, slice_get, Option, None}
+use Rattle.std.specs.Prelude.{zero, suc, ℤ, pos, negsuc, Bool, ◌||◌, if◌then◌else◌, List, ◌∷◌, remove, slice_get, Option, None}
 use Rattle.std.specs.List.{list_any}
 use Rattle.pvs_terms.specs.Tree.{Tree, True, False, tree_eq}
 use Rattle.pvs_sequent.specs.declared.place.Place.{Place}

@@ -15,7 +15,7 @@ use std::marker::Model;
 /// A sequent of formulas of a store: the antecedents together imply one of the consequents, for all
 /// values of the variables, which are given by their types, the last one first.
 ///
-/// After CSL-97-2, section 5.
+/// After the sequents of the proof rules in CSL-97-2.
 #[derive(Drop)]
 pub struct Sequent {
     variables: IdList,

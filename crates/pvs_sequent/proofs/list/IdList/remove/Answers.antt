@@ -1,4 +1,4 @@
-use Rattle.std.proofs.Common.{◌≡◌, ◌∙◌, ◌+◌, ◌<◌, ℕ, List, suc, length, reverse, remove, sym, ap, subst, arith}
+use Rattle.std.proofs.Common.{◌∙◌, ◌<◌, ℕ, List, length, reverse, remove, sym, ap, subst, arith}
 use Rattle.std.proofs.lemmas.List.{length-reverse}
 use Rattle.pvs_sequent.proofs.Lists.{remove-reverse}
 use Rattle.pvs_sequent.proofs.list.IdList.remove.Goals as goal

@@ -1,4 +1,4 @@
-use Rattle.std.proofs.Common.{◌∙◌, sym, ap}
+use Rattle.std.proofs.Common.{sym, ap}
 use Rattle.pvs_sequent.specs.Numbered.{Numbered}
 use Rattle.pvs_sequent.proofs.NumberLaws.{antecedent_found, consequent_found}
 use Rattle.pvs_sequent.proofs.sequent.Sequent.formula_at.Goals as goal
