@@ -1,0 +1,4 @@
+pub mod OutcomeLaws
+pub mod RunLaws
+pub mod SoundReplay
+pub mod ScriptLaws

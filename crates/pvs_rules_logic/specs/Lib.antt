@@ -1,0 +1,5 @@
+pub mod Rules
+pub mod Rows
+pub mod Step
+pub mod Numbers
+pub mod Branches

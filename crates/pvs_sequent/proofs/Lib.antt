@@ -1,0 +1,6 @@
+pub mod Lists
+pub mod NumberLaws
+pub mod PremiseLaws
+pub mod Refutations
+pub mod OutcomeLaws
+pub mod ExtendsLaws
