@@ -2,7 +2,7 @@
 use Rattle.std.proofs.Common.{◌≡◌, refl, subst, ◌⊎◌, inl, inr, Bool, true, false, not, cond, List, [], ◌∷◌, ◌++◌, Option, Some, None, Ok}
 use Rattle.pvs_base.specs.declared.code.Code.{Code}
 use Rattle.pvs_terms.specs.Tree.{Tree}
-use Rattle.pvs_subst.specs.Contexts.{Owed}
+use Rattle.pvs_subst.specs.Contexts.{Obligation}
 use Rattle.pvs_sem.specs.Truth.{Interpretation, truth}
 use Rattle.pvs_sequent.specs.declared.place.Side.TheVariants as side
 use Rattle.pvs_sequent.specs.Sequents.{Sequent, add, is_closed}
@@ -13,12 +13,12 @@ use Rattle.pvs_sequent.specs.Truth.{AreTrueSequents}
 use Rattle.pvs_sequent.proofs.Refutations.{Refutes, IsValuation, refuted_add, refuted_closed, true_not_refuted}
 
 -- each condition holds, for this notion of what it is for one to hold
-abbrev pub AllHold : (Owed → Type 0) → Conditions → Type 0
+abbrev pub AllHold : (Obligation → Type 0) → Conditions → Type 0
 AllHold H [] = Unit {0}
 AllHold H (c ∷ cs) = H c × AllHold H cs
 
 -- this is so of the result, where the conditions hold
-abbrev pub Gives : {A : Type 0} → (Owed → Type 0) → (A → Type 0) → Outcome A → Type 0
+abbrev pub Gives : {A : Type 0} → (Obligation → Type 0) → (A → Type 0) → Outcome A → Type 0
 Gives H P (Refused c) = Unit {0}
 Gives H P (Accepted a cs) = AllHold H cs → P a
 
@@ -27,7 +27,7 @@ abbrev pub SomeOf : (Sequent → Type 0) → List Sequent → Type 0
 SomeOf R [] = ⊥
 SomeOf R (q ∷ qs) = R q ⊎ SomeOf R qs
 
-module _ (H : Owed → Type 0) where
+module _ (H : Obligation → Type 0) where
   all_hold_split : (cs ds : Conditions) → AllHold H (cs ++ ds) → AllHold H cs × AllHold H ds
   all_hold_split [] ds h = (tt, h)
   all_hold_split (c ∷ cs) ds h = let r = all_hold_split cs ds h.1 in ((h.0, r.0), r.1)
@@ -56,7 +56,7 @@ module _ (H : Owed → Type 0) where
   where_found {A} {B} Q x f h = gives_then (λ (a : A). x ≡ Some a) Q (applicable x) f (gives_found _ x) h
 
 -- a condition that v makes TRUE, closed down to the variables of a sequent
-abbrev pub HoldsFor : (Tree → Bool) → Sequent → Owed → Type 0
+abbrev pub HoldsFor : (Tree → Bool) → Sequent → Obligation → Type 0
 HoldsFor v q c = v (closed_in q c) ≡ true
 
 -- R: what it is for a sequent to be refuted. The rule axiom closes none that is.

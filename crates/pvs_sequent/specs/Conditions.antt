@@ -1,7 +1,7 @@
 -- Conditions, closed over what stands between them and the variables of a sequent.
 use Rattle.std.specs.Prelude.{ℕ, ◌-◌, [], ◌∷◌, length, take}
 use Rattle.pvs_terms.specs.Tree.{Tree, True, Lam, Eq, If}
-use Rattle.pvs_subst.specs.Contexts.{Assumptions, Variable, Hypothesis, Owed}
+use Rattle.pvs_subst.specs.Contexts.{Assumptions, Variable, Hypothesis, Obligation}
 use Rattle.pvs_sequent.specs.Sequents.{Sequent}
 
 -- the formula that p holds for all values of its variable in a type
@@ -23,5 +23,5 @@ abbrev pub inner : ℕ → Assumptions → Assumptions
 inner n g = take (length g - n) g
 
 -- a condition closed down to the variables of a sequent
-abbrev pub closed_in : Sequent → Owed → Tree
+abbrev pub closed_in : Sequent → Obligation → Tree
 closed_in q c = close (inner (length q.variables) c.context) c.goal

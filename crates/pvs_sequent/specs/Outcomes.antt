@@ -3,11 +3,11 @@
 use Rattle.std.specs.Prelude.{Bool, true, false, List, [], ◌++◌, Option, Some, None}
 use Rattle.pvs_base.specs.declared.code.Code.{Code}
 use Rattle.pvs_base.specs.declared.code.Code.TheVariants as code
-use Rattle.pvs_subst.specs.Contexts.{Owed}
+use Rattle.pvs_subst.specs.Contexts.{Obligation}
 
 -- type-correctness conditions, each with its context
 abbrev pub Conditions : Type 0
-Conditions = List Owed
+Conditions = List Obligation
 
 pub data Outcome (A : Type 0) : Type 0 where
   Refused : Code → Outcome A

@@ -12,7 +12,7 @@ pub returns-then-same : goal.returns-then-same
 returns-then-same c =
     sym (list_any-map (tree_eq (tree_at c.args.store.now c.args.formula)) (tree_at c.args.store.now) c.args.formulas.now
     ∙ sym c.loop-id.invariant
-    ∙ any_found _ c.args.formulas.now c.loop-id.id-index c.id-item.result c.loop-id-test.true c.id-item.is (sym c.same.ensures ∙ c.if-same.true))
+    ∙ any_found _ c.args.formulas.now c.loop-id.id-index c.id-item.result c.loop-id-test.true c.id-item.is (sym c.same.ensures.value ∙ c.if-same.true))
 
 pub returns : goal.returns
 returns c =
