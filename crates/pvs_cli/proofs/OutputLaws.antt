@@ -6,7 +6,7 @@ use Rattle.std.proofs.lemmas.List.{length-drop, length-take, take_all}
 use Rattle.pvs_base.specs.declared.code.Fault.{Fault}
 use Rattle.pvs_syntax.specs.declared.unit.Unit as unit
 use Rattle.pvs_parser.specs.Text.{IsAnswer}
-use Rattle.pvs_parser.specs.Reading.{read_text}
+use Rattle.pvs_parser.specs.code.Reading.{read_text}
 use Rattle.pvs_parser.proofs.Texts.{text_answer}
 use Rattle.pvs_io.specs.declared.sink.Gave.TheVariants as gave
 use Rattle.pvs_io.specs.Outside.{Gives}
@@ -20,7 +20,7 @@ use Rattle.pvs_cli.specs.Input.{ReadsText}
 use Rattle.pvs_cli.specs.Output.{Adds, HasOneOutput, IsCheck, IsOutput, IsReportOf, Writes, WritesFor, WritesOutput, WritesReport, WritesReportOf, exit_status, has_whole_output, is_unfinished, report, text_of, usage, usage_line}
 use Rattle.pvs_cli.proofs.LineLaws.{bytes_push}
 use Rattle.pvs_cli.proofs.ReportOf.{one_report}
-use Rattle.pvs_script.specs.Reading.{script_of}
+use Rattle.pvs_script.specs.code.Reading.{script_of}
 use Rattle.pvs_script.proofs.Verdicts.{script_answer}
 
 -- each text has an answer

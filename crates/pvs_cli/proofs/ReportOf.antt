@@ -7,7 +7,7 @@ use Rattle.pvs_syntax.specs.declared.unit.Unit as unit
 use Rattle.pvs_parser.specs.declared.failure.ParseFault.{ParseFault}
 use Rattle.pvs_parser.specs.declared.failure.ParseFault.TheVariants as parse_fault
 use Rattle.pvs_parser.specs.Text.{IsAnswer, Answers}
-use Rattle.pvs_script.specs.Reading.{script_of}
+use Rattle.pvs_script.specs.code.Reading.{script_of}
 use Rattle.pvs_script.proofs.Verdicts.{one_answer, script_answer}
 use Rattle.pvs_cli.specs.Lines.{Line}
 use Rattle.pvs_cli.specs.Verdicts.{AreScripts, Scripts}

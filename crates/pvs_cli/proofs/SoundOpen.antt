@@ -22,7 +22,7 @@ use Rattle.pvs_cli.specs.Lines.{Line, FormulaLine, TotalLine, OpenWord, totals_o
 use Rattle.pvs_cli.specs.Reporting.{of_text, outcome_lines, unit_lines, with_total}
 use Rattle.pvs_cli.specs.Verdicts.{Scripts}
 use Rattle.pvs_cli.specs.Outcomes.{outcomes_of}
-use Rattle.pvs_script.specs.Reading.{script_of}
+use Rattle.pvs_script.specs.code.Reading.{script_of}
 use Rattle.pvs_script.proofs.Verdicts.{script_answer}
 use Rattle.pvs_cli.specs.Soundness.{Fits}
 use Rattle.pvs_cli.specs.SoundFacts.{ReportedCanBeFalse}

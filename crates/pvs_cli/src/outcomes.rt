@@ -4,7 +4,7 @@ ghost use Rattle.std.specs.Prelude.{◌≡◌, ◌≤◌, ◌^◌, ◌||◌, ◌
 ghost use Rattle.std.specs.List.{All, list_any};
 ghost use Rattle.pvs_syntax.specs.declared.unit.Item.TheVariants as item;
 ghost use Rattle.pvs_parser.specs.Text.{SpanIn};
-ghost use Rattle.pvs_script.specs.Reading.{script_of};
+ghost use Rattle.pvs_script.specs.code.Reading.{script_of};
 ghost use Rattle.pvs_cli.specs.Index.{HasFormulas, formula_value};
 ghost use Rattle.pvs_cli.specs.LemmaIndex.{HasLemmas};
 ghost use Rattle.pvs_cli.specs.Names.{FormulaName, named_by};

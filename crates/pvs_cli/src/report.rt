@@ -4,7 +4,7 @@ ghost use Rattle.std.specs.Prelude.{◌≡◌, ◌≤◌, ◌^◌, ◌++◌, len
 ghost use Rattle.std.specs.List.{All, list_any};
 ghost use Rattle.std.specs.Option.{option_map};
 ghost use Rattle.pvs_parser.specs.Text.{SpanIn};
-ghost use Rattle.pvs_script.specs.Reading.{script_of};
+ghost use Rattle.pvs_script.specs.code.Reading.{script_of};
 ghost use Rattle.pvs_cli.specs.LemmaIndex.{status_in};
 ghost use Rattle.pvs_syntax.specs.Words.{spelling};
 ghost use Rattle.pvs_cli.specs.Shown.{entries_shown, kind_shown};

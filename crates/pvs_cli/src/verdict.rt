@@ -4,7 +4,7 @@ ghost use Rattle.std.specs.Prelude.{◌≡◌, ◌≤◌, ◌^◌, List, [], ◌
 ghost use Rattle.std.specs.Option.{option_map};
 ghost use Rattle.pvs_syntax.specs.declared.unit.Item.TheVariants as item;
 ghost use Rattle.pvs_parser.specs.Text.{SpanIn};
-ghost use Rattle.pvs_script.specs.Reading.{script_of};
+ghost use Rattle.pvs_script.specs.code.Reading.{script_of};
 ghost use Rattle.pvs_cli.specs.Trees.{tree_of};
 ghost use Rattle.pvs_cli.specs.Sequents.{sequent_of};
 ghost use Rattle.pvs_cli.specs.Index.{HasFormulas};

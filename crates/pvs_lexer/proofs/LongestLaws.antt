@@ -9,7 +9,7 @@ use Rattle.std.proofs.lemmas.List.Sums.{prefix_len-le-length}
 use Rattle.pvs_lexer.specs.declared.token.TokenKind.{TokenKind}
 use Rattle.pvs_lexer.specs.declared.token.TokenKind.TheVariants.{Word, Bang, Number, Quoted, Symbol}
 use Rattle.pvs_lexer.specs.Tokens.{is_word_byte, is_word, is_bang, is_number, is_quote, is_quoted, is_symbol, grammar_one_byte, outside_one_byte, grammar_two_bytes, outside_two_bytes, kind_of, Match, match_or, longest_within, longest}
-use Rattle.pvs_lexer.specs.Scan.{is_other, begins_variable, symbol_size}
+use Rattle.pvs_lexer.specs.code.Scan.{is_other, begins_variable, symbol_size}
 
 -- a token at the front of a text, of at most n bytes
 pub record IsFront (text : List ℕ) (n : ℕ) (found : Match) : Type 0 where

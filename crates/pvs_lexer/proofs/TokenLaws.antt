@@ -1,14 +1,14 @@
 -- The tokens of a text, part by part.
 use Rattle.std.proofs.Common.{◌≡◌, ◌≢◌, ℕ, zero, suc, ◌+◌, ◌-◌, ◌≤◌, Bool, true, false, cond, not, List, [], ◌∷◌, ◌++◌, length, take, drop, Option, Some, None, refl, sym, ap, ap₂, ◌∙◌, arith, append_assoc, append-nil, length-append, length-take, get_or}
 use Rattle.std.proofs.lemmas.List.{take_rest}
-use Rattle.pvs_lexer.specs.Cursor.{BeginsNoBlank}
+use Rattle.pvs_lexer.specs.code.Cursor.{BeginsNoBlank}
 use Rattle.std.specs.List.{prefix_len}
 use Rattle.pvs_base.specs.declared.code.Code.{Code}
 use Rattle.pvs_base.specs.declared.place.Pos.{Pos}
 use Rattle.pvs_base.specs.Place.{ends_line, place_after}
 use Rattle.pvs_lexer.specs.declared.token.TokenKind.{TokenKind}
 use Rattle.pvs_lexer.specs.Tokens.{Match, longest, is_space, begins_comment, fault_of, TokenStream, no_tokens, before_others, token_or_fault, tokens_from}
-use Rattle.pvs_lexer.specs.Scan.{blank}
+use Rattle.pvs_lexer.specs.code.Scan.{blank}
 use Rattle.pvs_lexer.proofs.Places.{place_here, place_append}
 
 -- ---- covered bytes

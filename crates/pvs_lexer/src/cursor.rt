@@ -2,7 +2,7 @@
 
 ghost use Rattle.std.specs.Prelude.{◌≡◌, ◌≤◌, ◌+◌, length, drop, take};
 ghost use Rattle.pvs_base.specs.Place.{place_after};
-ghost use Rattle.pvs_lexer.specs.Cursor as spec;
+ghost use Rattle.pvs_lexer.specs.code.Cursor as spec;
 
 use crate::scan::blank;
 use pvs_base::Pos;

@@ -24,7 +24,7 @@ impl<'a> Model for Lexer<'a> {
 
     ghost Value = { TokenStream };
 
-    ghost use Rattle.pvs_lexer.specs.Cursor.{tokens_left, HasRoom};
+    ghost use Rattle.pvs_lexer.specs.code.Cursor.{tokens_left, HasRoom};
 
     ghost view = { λ l. tokens_left l.cursor 0 };
 

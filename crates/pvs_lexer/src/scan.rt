@@ -5,7 +5,7 @@ ghost use Rattle.std.specs.Char.{is_ascii_alphabetic, is_ascii_digit};
 ghost use Rattle.std.specs.List.{list_any, prefix_len};
 ghost use Rattle.std.specs.Str.{bytes_eq};
 ghost use Rattle.pvs_lexer.specs.Tokens as spec;
-ghost use Rattle.pvs_lexer.specs.Scan as scan;
+ghost use Rattle.pvs_lexer.specs.code.Scan as scan;
 
 use crate::token::TokenKind;
 
@@ -56,7 +56,7 @@ fn byte(text: &[u8], at: usize) -> u8
     if at < text.len() { text[at] } else { 0 }
 }
 
-#[tactic(auto, unfolding(crate::specs::Scan::begins_variable))]
+#[tactic(auto, unfolding(crate::specs::code::Scan::begins_variable))]
 fn begins_variable(first: u8, rest: &[u8]) -> bool
     ensures { result ≡ scan.begins_variable first rest.now }
 {
@@ -117,7 +117,7 @@ fn is_pair(a: u8, b: u8) -> bool
 }
 
 /// How many bytes the symbol has that begins a text, or 0 where none does.
-#[tactic(auto, unfolding(crate::specs::Scan::symbol_size))]
+#[tactic(auto, unfolding(crate::specs::code::Scan::symbol_size))]
 fn symbol_size(first: u8, rest: &[u8]) -> usize
     ensures { result ≡ scan.symbol_size first rest.now }
 {

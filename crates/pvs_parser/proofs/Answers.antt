@@ -8,7 +8,7 @@ use Rattle.pvs_parser.specs.declared.failure.ParseFault.{ParseFault}
 use Rattle.pvs_parser.specs.declared.failure.ParseFault.TheVariants as parse_fault
 use Rattle.pvs_syntax.specs.Trees.{IsTreeOf, IsTreeOfTerm, quoted_term}
 use Rattle.pvs_parser.specs.Language.{outermost, whole}
-use Rattle.pvs_parser.specs.Reading.{Returns, read_text, read_span}
+use Rattle.pvs_parser.specs.code.Reading.{Returns, read_text, read_span}
 use Rattle.pvs_parser.specs.Text.{Reads, ReadsSpan, AnswersTree, AnswersFault, IsFirstFault, IsFirstFaultOfSpan, IsAnswer, IsSpanAnswer, Answers, AnswersSpan, SpansIn, terminals_of_span}
 use Rattle.pvs_parser.proofs.Texts.{text_sound, text_complete, span_sound, span_complete, text_answer, span_answer, unit_or_fault, fault_same, expr_or_fault, span_fault_same}
 use Rattle.pvs_parser.proofs.ScriptSpans.{spans_in}

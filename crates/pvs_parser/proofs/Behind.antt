@@ -5,7 +5,7 @@ use Rattle.pvs_parser.specs.declared.terminal.TerminalKind.{TerminalKind}
 use Rattle.pvs_parser.specs.declared.terminal.TerminalKind.TheVariants as kind
 use Rattle.pvs_parser.specs.Terminals.{Is, IsId, is_id, same_kind}
 use Rattle.pvs_parser.specs.Language.{Tokens}
-use Rattle.pvs_parser.specs.Descent.{after}
+use Rattle.pvs_parser.specs.code.Descent.{after}
 use Rattle.pvs_parser.proofs.Follows.{pull, Ends}
 use Rattle.pvs_parser.proofs.Gets.{after_other}
 use Rattle.pvs_parser.proofs.Deeper.{WholeEnds}

@@ -12,7 +12,7 @@ use Rattle.pvs_syntax.specs.declared.expression.InfixWord.{InfixWord}
 use Rattle.pvs_syntax.specs.declared.word.Word.{Word}
 use Rattle.pvs_parser.specs.Terminals.{same_kind, is_id}
 use Rattle.pvs_parser.specs.Language.{Tokens, Limit, level, comparison}
-use Rattle.pvs_parser.specs.Descent.{Answer, either, stop, too_many, too_deep, after, expect, id, number, compares, compares_of, begins, begins_of, prefix, is_below, with_room}
+use Rattle.pvs_parser.specs.code.Descent.{Answer, either, stop, too_many, too_deep, after, expect, id, number, compares, compares_of, begins, begins_of, prefix, is_below, with_room}
 use Rattle.pvs_base.specs.Answers.{◌>>=◌}
 
 -- the tokens that stand behind the cut in one reading and in the other, and which reasons of the first need not be those of the other

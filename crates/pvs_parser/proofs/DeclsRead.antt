@@ -15,8 +15,8 @@ use Rattle.pvs_syntax.specs.declared.unit.FormulaWord.TheVariants as formula_wor
 use Rattle.pvs_parser.specs.Terminals.{Is, IsId, is_id}
 use Rattle.pvs_parser.specs.Language.{Limit, IsBelow, Tokens, Derives, type_, outermost}
 use Rattle.pvs_parser.specs.Units.{DerivesIds, DerivesTypeWord, DerivesImporting, DerivesVariables, DerivesParameters, DerivesBody, DerivesDecl, DerivesAssumed, type_decl, var_decl, const_decl, formula_of}
-use Rattle.pvs_parser.specs.Descent.{Answer, after, starts_type}
-use Rattle.pvs_parser.specs.UnitDescent.{type, variables, body, constant, constants, type_decls, types, formula, formulas_or_constants, decls_of_kind, decls_after_colon, declaration_of_names, declaration, assuming_decls_of_kind, assuming_decls_after_colon, assuming_decl, comes_kind}
+use Rattle.pvs_parser.specs.code.Descent.{Answer, after, starts_type}
+use Rattle.pvs_parser.specs.code.UnitDescent.{type, variables, body, constant, constants, type_decls, types, formula, formulas_or_constants, decls_of_kind, decls_after_colon, declaration_of_names, declaration, assuming_decls_of_kind, assuming_decls_after_colon, assuming_decl, comes_kind}
 use Rattle.pvs_parser.proofs.Follows.{Ends}
 use Rattle.pvs_parser.proofs.Gets.{Gets, found, then_, there, absent, takes, names, after_is, both, unglue}
 use Rattle.pvs_parser.proofs.DescentSteps.{Splits}

@@ -10,8 +10,8 @@ use Rattle.pvs_syntax.specs.declared.expression.Expr.{Expr}
 use Rattle.pvs_syntax.specs.declared.expression.TypeExpr.{TypeExpr}
 use Rattle.pvs_parser.specs.Terminals.{Is}
 use Rattle.pvs_parser.specs.Language.{Limit, Tokens, HasRoom, Derives, Ending, Item, ItemTree, list, type_, whole, outermost, in_frame}
-use Rattle.pvs_parser.specs.Descent.{framed_with}
-use Rattle.pvs_parser.specs.UnitDescent.{whole_reader, expr, type}
+use Rattle.pvs_parser.specs.code.Descent.{framed_with}
+use Rattle.pvs_parser.specs.code.UnitDescent.{whole_reader, expr, type}
 use Rattle.pvs_parser.proofs.Follows.{pull_of, Ends}
 use Rattle.pvs_parser.proofs.Yields.{Yields, here, bind, weaken}
 use Rattle.pvs_parser.proofs.Gets.{Gets, found, then_}

@@ -22,7 +22,7 @@ use Rattle.pvs_syntax.specs.declared.expression.TypeExpr.{TypeExpr}
 use Rattle.pvs_syntax.specs.declared.expression.TypeExpr.TheVariants as type_expr
 use Rattle.pvs_parser.specs.Terminals.{Is, IsId, is_id, same_kind}
 use Rattle.pvs_parser.specs.Language.{Limit, Tokens, IsBelow, HasRoom, level, Derives, Ending, Plain, Bound, Form, Item, Nonterminal, form, item, list, name, inst, type_, TreeOf, ItemTree, operand_form, name_with_theory, sign, comparison, in_frame, without_marks, with_mark, with_lasting_mark, before_call, binder_word, group_tree}
-use Rattle.pvs_parser.specs.Descent.{Answer, Read, Readers, after, prefix, prefix_of_binder, begins, begins_of, compares, compares_of, label, label_of, comes_type, entries, starts_item, list_from, list_with, framed_with, name_after, name_term_with, name_type_with, first_of, first_with, call_mark, call_with, project, term_from, term_with, prefixed_with, binder_with, compared_from, operand_with, between_with, chain_with, cond_with, otherwise_of, otherwise_with, type_of, type_with, parameter_of, parameter_with, component_with, variable_with, bare_variable, definition_with, item_with, next_readers, reader}
+use Rattle.pvs_parser.specs.code.Descent.{Answer, Read, Readers, after, prefix, prefix_of_binder, begins, begins_of, compares, compares_of, label, label_of, comes_type, entries, starts_item, list_from, list_with, framed_with, name_after, name_term_with, name_type_with, first_of, first_with, call_mark, call_with, project, term_from, term_with, prefixed_with, binder_with, compared_from, operand_with, between_with, chain_with, cond_with, otherwise_of, otherwise_with, type_of, type_with, parameter_of, parameter_with, component_with, variable_with, bare_variable, definition_with, item_with, next_readers, reader}
 use Rattle.pvs_base.specs.Answers.{◌>>=◌}
 use Rattle.pvs_parser.proofs.Follows.{pull, pull_of, Ends, FormStops, ItemStops}
 use Rattle.pvs_parser.proofs.Gets.{Gets, found, then_, there, absent, has_room, takes, names, numbers, after_is, after_other, both, unglue, from}

@@ -23,7 +23,7 @@ use Rattle.pvs_syntax.specs.declared.expression.TypeExpr.{TypeExpr}
 use Rattle.pvs_syntax.specs.declared.expression.TypeExpr.TheVariants as type_expr
 use Rattle.pvs_parser.specs.Terminals.{Is, IsId, is_id, same_kind}
 use Rattle.pvs_parser.specs.Language.{Limit, Tokens, HasRoom, Derives, Ending, Plain, Bound, Form, Item, Nonterminal, form, item, list, name, inst, type_, TreeOf, ItemTree, in_frame, without_marks, with_mark, with_lasting_mark, operand_form, sign, operator, instance, before_call, comparison, binder_word, begins_type, typed_binding}
-use Rattle.pvs_parser.specs.Descent.{Answer, Read, Readers, stop, too_many, starts_item, after, end_of_list, entries, nested_expr, list_from, list_with, framed_with, name_of, name_after, condition_with, cond_with, first_of, first_with, call_mark, call_with, project, term_from, term_with, body_with, binder_with, let_with, not_with, prefix, prefix_of_binder, prefixed_with, compares, compares_of, compared_from, operand_with, chain_on, between_with, chain_with, otherwise_of, otherwise_with, tuple_type, fun_type_with, base_with, sub_type_with, type_of, type_with, parameter_of, parameter_with, unnamed_with, component_with, variable_with, definition_with, item_with, next_readers, expr_with, reader}
+use Rattle.pvs_parser.specs.code.Descent.{Answer, Read, Readers, stop, too_many, starts_item, after, end_of_list, entries, nested_expr, list_from, list_with, framed_with, name_of, name_after, condition_with, cond_with, first_of, first_with, call_mark, call_with, project, term_from, term_with, body_with, binder_with, let_with, not_with, prefix, prefix_of_binder, prefixed_with, compares, compares_of, compared_from, operand_with, chain_on, between_with, chain_with, otherwise_of, otherwise_with, tuple_type, fun_type_with, base_with, sub_type_with, type_of, type_with, parameter_of, parameter_with, unnamed_with, component_with, variable_with, definition_with, item_with, next_readers, expr_with, reader}
 use Rattle.pvs_base.specs.Answers.{◌>>=◌}
 use Rattle.pvs_parser.proofs.Yields.{Yields, here, none, bind, cases, weaken}
 use Rattle.pvs_parser.proofs.Follows.{pull, pull_of, power, reach}

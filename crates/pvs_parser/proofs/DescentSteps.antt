@@ -13,7 +13,7 @@ use Rattle.pvs_syntax.specs.declared.word.Word.{Word}
 use Rattle.pvs_syntax.specs.declared.expression.InfixWord.{InfixWord}
 use Rattle.pvs_parser.specs.Terminals.{Is, IsId, is_id, same_kind}
 use Rattle.pvs_parser.specs.Language.{Tokens, Limit, IsBelow, HasRoom, level, comparison}
-use Rattle.pvs_parser.specs.Descent.{Answer, either, stop, after, expect, id, number, compares, compares_of, is_below, with_room, too_deep, entries, prefix, begins, begins_of, label, label_of}
+use Rattle.pvs_parser.specs.code.Descent.{Answer, either, stop, after, expect, id, number, compares, compares_of, is_below, with_room, too_deep, entries, prefix, begins, begins_of, label, label_of}
 use Rattle.pvs_base.specs.Answers.{◌>>=◌}
 use Rattle.pvs_parser.proofs.Yields.{Yields, Finds, here, it, none, missing}
 

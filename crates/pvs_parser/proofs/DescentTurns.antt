@@ -7,9 +7,9 @@ use Rattle.pvs_parser.specs.declared.terminal.TerminalKind.TheVariants as kind
 use Rattle.pvs_syntax.specs.declared.expression.Expr.{Expr}
 use Rattle.pvs_syntax.specs.declared.expression.Expr.TheVariants as expr
 use Rattle.pvs_parser.specs.Language.{Tokens, without_marks}
-use Rattle.pvs_parser.specs.Descent.{Readers, Read, either, after, stop, too_many, end_of_list, list_from, call_with, project, term_from, compares, mark, begins, last_with, term_with, compared_from}
+use Rattle.pvs_parser.specs.code.Descent.{Readers, Read, either, after, stop, too_many, end_of_list, list_from, call_with, project, term_from, compares, mark, begins, last_with, term_with, compared_from}
 use Rattle.pvs_base.specs.Answers.{◌>>=◌}
-use Rattle.pvs_parser.specs.Nests.{comes, end_of_list_at}
+use Rattle.pvs_parser.specs.code.Nests.{comes, end_of_list_at}
 use Rattle.pvs_parser.proofs.Turns.{one_more, no_more}
 
 -- ---- Lists.

@@ -4,9 +4,9 @@ use Rattle.std.proofs.lemmas.List.{take_more, take_all, map-append}
 use Rattle.pvs_syntax.specs.declared.word.Word.{Word}
 use Rattle.pvs_syntax.specs.declared.expression.TypeExpr.{TypeExpr}
 use Rattle.pvs_parser.specs.Language.{Tokens}
-use Rattle.pvs_parser.specs.Descent.{Answer}
+use Rattle.pvs_parser.specs.code.Descent.{Answer}
 use Rattle.pvs_base.specs.Answers.{◌>>=◌}
-use Rattle.pvs_parser.specs.Steps.{each}
+use Rattle.pvs_parser.specs.code.Steps.{each}
 
 -- the tokens behind the type
 unfoldable pub rest_of : Answer (TypeExpr × Tokens) → Answer Tokens

@@ -6,7 +6,7 @@ use Rattle.pvs_parser.specs.declared.failure.Stop.{Stop}
 use Rattle.pvs_parser.specs.declared.terminal.Connective.TheVariants as connective
 use Rattle.pvs_syntax.specs.declared.expression.Expr.{Expr}
 use Rattle.pvs_parser.specs.Language.{Tokens, Limit, language_limit, outermost, Form}
-use Rattle.pvs_parser.specs.Descent.{Answer, Read, stop, nested_expr, reader, at_end, expression}
+use Rattle.pvs_parser.specs.code.Descent.{Answer, Read, stop, nested_expr, reader, at_end, expression}
 use Rattle.pvs_base.specs.Answers.{◌>>=◌}
 use Rattle.pvs_parser.specs.Faults.{Begins, IsViablePrefix}
 use Rattle.pvs_parser.specs.Text.{IsExpr, NeverAwaitsName}

@@ -9,9 +9,9 @@ use Rattle.pvs_parser.specs.declared.terminal.Terminal.{Terminal}
 use Rattle.pvs_parser.specs.declared.terminal.TerminalKind.TheVariants as kind
 use Rattle.pvs_parser.specs.Terminals.{Is, IsId}
 use Rattle.pvs_parser.specs.Language.{Tokens, Limit, language_limit}
-use Rattle.pvs_parser.specs.Descent.{Answer}
+use Rattle.pvs_parser.specs.code.Descent.{Answer}
 use Rattle.pvs_parser.specs.Faults.{code_of, Begins, IsViablePrefix, IsReason, IsFaultAfter, IsFirstFaultIn}
-use Rattle.pvs_parser.specs.Reading.{tree_or_fault, unless_fault, fault_of, fault_at}
+use Rattle.pvs_parser.specs.code.Reading.{tree_or_fault, unless_fault, fault_of, fault_at}
 use Rattle.pvs_parser.specs.Text.{Terminals}
 use Rattle.pvs_parser.proofs.Cuts.{Cut, Agrees}
 use Rattle.pvs_parser.proofs.Locality.{Paired}

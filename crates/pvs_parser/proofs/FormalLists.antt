@@ -10,9 +10,9 @@ use Rattle.pvs_syntax.specs.declared.unit.Formal.{Formal}
 use Rattle.pvs_parser.specs.Terminals.{Is, is_id}
 use Rattle.pvs_parser.specs.Language.{Limit, IsBelow, HasRoom, Tokens, Derives, type_, outermost, in_frame}
 use Rattle.pvs_parser.specs.Units.{DerivesIds, DerivesTypeWord, DerivesFormal, DerivesFormals, DerivesFormalPart, type_formal, const_formal}
-use Rattle.pvs_parser.specs.Descent.{after, either, entries, starts_type}
+use Rattle.pvs_parser.specs.code.Descent.{after, either, entries, starts_type}
 use Rattle.pvs_base.specs.Answers.{◌>>=◌}
-use Rattle.pvs_parser.specs.UnitDescent.{type, plus, formal_of, formal_after, formal, formals_from, formals, formal_part}
+use Rattle.pvs_parser.specs.code.UnitDescent.{type, plus, formal_of, formal_after, formal, formals_from, formals, formal_part}
 use Rattle.pvs_parser.proofs.Yields.{Yields, here, none, bind, cases, weaken}
 use Rattle.pvs_parser.proofs.Gets.{Gets, found, then_, there, absent, takes, after_is, has_room, both, unglue, from}
 use Rattle.pvs_parser.proofs.DescentSteps.{Comes, after_yields, expect_yields, room, AtMost, below_at_most, fewer, entries_at_most, one_more, enough_entries, Splits, glue, put, alone, nothing}

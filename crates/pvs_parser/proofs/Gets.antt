@@ -7,7 +7,7 @@ use Rattle.pvs_parser.specs.declared.terminal.TerminalKind.TheVariants as kind
 use Rattle.pvs_syntax.specs.declared.word.Word.{Word}
 use Rattle.pvs_parser.specs.Terminals.{Is, IsId, same_kind}
 use Rattle.pvs_parser.specs.Language.{Limit, Tokens, HasRoom, level}
-use Rattle.pvs_parser.specs.Descent.{Answer, either, stop, after, expect, id, number, with_room, too_deep}
+use Rattle.pvs_parser.specs.code.Descent.{Answer, either, stop, after, expect, id, number, with_room, too_deep}
 use Rattle.pvs_base.specs.Answers.{◌>>=◌}
 use Rattle.pvs_parser.proofs.DescentSteps.{same_is, is_below_is, Splits}
 

@@ -12,7 +12,7 @@ use Rattle.pvs_parser.specs.declared.terminal.TerminalKind.TheVariants as kind
 use Rattle.pvs_syntax.specs.declared.word.Word.{Word}
 use Rattle.pvs_parser.specs.Terminals.{Is, IsId, is_id, same_kind}
 use Rattle.pvs_parser.specs.Language.{Limit, Tokens, IsBelow, HasRoom, level, with_mark, before_call}
-use Rattle.pvs_parser.specs.Descent.{Answer, either, stop, expect, id, number, is_below, with_room, too_deep, call_mark, prefix, begins, begins_of}
+use Rattle.pvs_parser.specs.code.Descent.{Answer, either, stop, expect, id, number, is_below, with_room, too_deep, call_mark, prefix, begins, begins_of}
 use Rattle.pvs_base.specs.Answers.{◌>>=◌}
 use Rattle.pvs_parser.proofs.Yields.{Yields}
 use Rattle.pvs_parser.proofs.DescentSteps.{Comes, expect_yields, is_below_is, Splits, glue, alone}

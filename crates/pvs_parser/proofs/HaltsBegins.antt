@@ -20,7 +20,7 @@ use Rattle.pvs_syntax.specs.declared.expression.TypeExpr.{TypeExpr}
 use Rattle.pvs_syntax.specs.declared.expression.TypeExpr.TheVariants as type_expr
 use Rattle.pvs_parser.specs.Terminals.{Is, IsId, is_id}
 use Rattle.pvs_parser.specs.Language.{Limit, Tokens, IsBelow, HasRoom, level, Derives, Ending, Plain, Bound, Form, Item, Nonterminal, form, item, list, name, inst, type_, TreeOf, ItemTree, in_frame, without_marks, with_mark, with_lasting_mark, before_call, simple_name, operand_form, sign, comparison, binder_word, begins_type, whole}
-use Rattle.pvs_parser.specs.Descent.{starts_expr, starts_type, starts_item}
+use Rattle.pvs_parser.specs.code.Descent.{starts_expr, starts_type, starts_item}
 use Rattle.pvs_parser.proofs.Nonempty.{nonempty}
 use Rattle.pvs_parser.proofs.Gets.{both}
 use Rattle.pvs_parser.proofs.DescentSteps.{Splits, glue, put, alone, nothing}

@@ -11,7 +11,7 @@ use Rattle.pvs_syntax.specs.declared.unit.Unit as tree
 use Rattle.pvs_parser.specs.Terminals.{IsId}
 use Rattle.pvs_parser.specs.Language.{Limit, Tokens, IsBelow}
 use Rattle.pvs_parser.specs.Units.{DerivesItems, DerivesUnit}
-use Rattle.pvs_parser.specs.UnitDescent.{one_item, items_from, unit}
+use Rattle.pvs_parser.specs.code.UnitDescent.{one_item, items_from, unit}
 use Rattle.pvs_parser.proofs.Gets.{both}
 use Rattle.pvs_parser.proofs.DescentSteps.{after_yields, Splits, glue}
 use Rattle.pvs_parser.proofs.Deeper.{Fore}

@@ -14,9 +14,9 @@ use Rattle.pvs_parser.specs.Terminals.{Is, IsId}
 use Rattle.pvs_parser.specs.Language as l
 use Rattle.pvs_parser.specs.Language.{Limit, Tokens, IsBelow, HasRoom, Derives, Form, Item, type_, outermost, in_frame}
 use Rattle.pvs_parser.specs.Units.{DerivesIds, DerivesTypeWord, DerivesVariables, DerivesParameters, DerivesBody, DerivesDecl, DerivesAssumed, formula_of}
-use Rattle.pvs_parser.specs.Descent.{expect}
+use Rattle.pvs_parser.specs.code.Descent.{expect}
 use Rattle.pvs_base.specs.Answers.{◌>>=◌}
-use Rattle.pvs_parser.specs.UnitDescent.{type, ids, variables, body, constant, function, constants, types, formulas, formulas_or_constants, decls_of_kind, decls_after_colon, declaration_of_names, declaration_from_id, declaration, assuming_decls_of_kind, assuming_decls_after_colon, assuming_decl}
+use Rattle.pvs_parser.specs.code.UnitDescent.{type, ids, variables, body, constant, function, constants, types, formulas, formulas_or_constants, decls_of_kind, decls_after_colon, declaration_of_names, declaration_from_id, declaration, assuming_decls_of_kind, assuming_decls_after_colon, assuming_decl}
 use Rattle.pvs_parser.proofs.Gets.{both}
 use Rattle.pvs_parser.proofs.DescentSteps.{after_yields, glue, put, alone, nothing}
 use Rattle.pvs_parser.proofs.DescentSound.{moved}

@@ -14,8 +14,8 @@ use Rattle.pvs_parser.specs.Terminals.{Is, IsId, is_id}
 use Rattle.pvs_parser.specs.Language as l
 use Rattle.pvs_parser.specs.Language.{Limit, Tokens, IsBelow, HasRoom, Derives, Form, Item, type_, outermost, in_frame, without_marks, instance}
 use Rattle.pvs_parser.specs.Units.{DerivesIds, DerivesTypeWord, DerivesFormal, DerivesFormals, DerivesFormalPart, DerivesInstances, DerivesImporting}
-use Rattle.pvs_parser.specs.Descent.{stop, too_many, end_of_list, list_from, entries}
-use Rattle.pvs_parser.specs.UnitDescent.{expr, type, name, ids, formal_of, formal_after, formal, formals_from, formals, formal_part, inst, instances_from, importing}
+use Rattle.pvs_parser.specs.code.Descent.{stop, too_many, end_of_list, list_from, entries}
+use Rattle.pvs_parser.specs.code.UnitDescent.{expr, type, name, ids, formal_of, formal_after, formal, formals_from, formals, formal_part, inst, instances_from, importing}
 use Rattle.pvs_parser.proofs.Gets.{both}
 use Rattle.pvs_parser.proofs.DescentSteps.{Comes, after_yields, AtMost, entries_at_most, Splits, glue, put, alone, nothing}
 use Rattle.pvs_parser.proofs.DescentSound.{moved}

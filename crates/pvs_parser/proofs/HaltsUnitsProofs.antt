@@ -8,9 +8,9 @@ use Rattle.pvs_syntax.specs.declared.unit.Proof.{Proof}
 use Rattle.pvs_parser.specs.Terminals.{Is, IsId}
 use Rattle.pvs_parser.specs.Language.{Limit, Tokens, IsBelow}
 use Rattle.pvs_parser.specs.Units.{Balanced, DerivesProof, is_plain}
-use Rattle.pvs_parser.specs.Descent.{Answer, too_deep, is_below}
+use Rattle.pvs_parser.specs.code.Descent.{Answer, too_deep, is_below}
 use Rattle.pvs_base.specs.Answers.{◌>>=◌}
-use Rattle.pvs_parser.specs.UnitDescent.{closing_parenthesis_of, closing_parenthesis, script, target, proof}
+use Rattle.pvs_parser.specs.code.UnitDescent.{closing_parenthesis_of, closing_parenthesis, script, target, proof}
 use Rattle.pvs_parser.proofs.Gets.{both}
 use Rattle.pvs_parser.proofs.DescentSteps.{below_is, is_below_is, Splits, glue, put, alone, nothing}
 use Rattle.pvs_parser.proofs.Scripts.{Closes, token_front, group_front, script_sound, target_sound}

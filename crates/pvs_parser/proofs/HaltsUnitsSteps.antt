@@ -7,7 +7,7 @@ use Rattle.pvs_parser.specs.declared.terminal.Terminal.{Terminal}
 use Rattle.pvs_syntax.specs.declared.word.Word.{Word}
 use Rattle.pvs_parser.specs.Terminals.{IsId, is_id}
 use Rattle.pvs_parser.specs.Language.{Limit, Tokens}
-use Rattle.pvs_parser.specs.Descent.{Answer, stop, id}
+use Rattle.pvs_parser.specs.code.Descent.{Answer, stop, id}
 use Rattle.pvs_base.specs.Answers.{◌>>=◌}
 use Rattle.pvs_parser.specs.Faults.{AwaitsName}
 use Rattle.pvs_parser.proofs.DescentSteps.{Splits}

@@ -11,7 +11,7 @@ use Rattle.pvs_parser.specs.Language.{Limit, Tokens, IsBelow}
 use Rattle.pvs_parser.specs.Units.{DerivesFormalPart, DerivesDecl, DerivesAssumed, DerivesSemicolon, DerivesMany, DerivesAssuming, DerivesTheory}
 use Rattle.pvs_syntax.specs.Words.{spelling}
 use Rattle.pvs_base.specs.Answers.{◌>>=◌}
-use Rattle.pvs_parser.specs.UnitDescent.{declaration, assuming_decl, comes_decl, past_semicolon, many_from, declarations, assumptions, assuming_part, heading, ending, theory}
+use Rattle.pvs_parser.specs.code.UnitDescent.{declaration, assuming_decl, comes_decl, past_semicolon, many_from, declarations, assumptions, assuming_part, heading, ending, theory}
 use Rattle.pvs_parser.proofs.Yields.{Yields}
 use Rattle.pvs_parser.proofs.Gets.{both}
 use Rattle.pvs_parser.proofs.DescentSteps.{after_yields, glue, put, alone, nothing}

@@ -7,7 +7,7 @@ use Rattle.pvs_parser.specs.declared.start.Start.TheVariants as start
 use Rattle.pvs_parser.specs.declared.terminal.Connective.TheVariants as connective
 use Rattle.pvs_parser.specs.declared.terminal.TerminalKind.{TerminalKind}
 use Rattle.pvs_parser.specs.Language.{Limit, Tokens, IsBelow, HasRoom, level, Form, Item, ItemTree, list, type_, in_frame}
-use Rattle.pvs_parser.specs.Descent.{Readers, expect, nested_expr, list_with, framed_with, reader}
+use Rattle.pvs_parser.specs.code.Descent.{Readers, expect, nested_expr, list_with, framed_with, reader}
 use Rattle.pvs_base.specs.Answers.{◌>>=◌}
 use Rattle.pvs_parser.proofs.DescentSound.{sound_reader, reader_limit}
 use Rattle.pvs_parser.proofs.Halts.{Stops, Halts, Wider, Place, first, deep, room_else, weaken}

@@ -7,7 +7,7 @@ use Rattle.pvs_parser.specs.declared.terminal.TerminalKind.TheVariants as kind
 use Rattle.pvs_syntax.specs.declared.expression.BinderWord.{BinderWord}
 use Rattle.pvs_parser.specs.Terminals.{IsId, is_id}
 use Rattle.pvs_parser.specs.Language.{Limit, Tokens, Derives, Plain, Form, Item, Nonterminal, form, item, list, name, inst, type_, TreeOf, operand_form, begins_type, binder_word}
-use Rattle.pvs_parser.specs.Descent.{starts_type}
+use Rattle.pvs_parser.specs.code.Descent.{starts_type}
 
 -- an identifier stands first
 abbrev pub IdFirst : Tokens → Type 0

@@ -7,8 +7,8 @@ use Rattle.pvs_syntax.specs.declared.word.Word.{Word}
 use Rattle.pvs_parser.specs.Terminals.{Is, IsId, is_id, same_kind}
 use Rattle.pvs_parser.specs.Language.{Limit, IsBelow, Tokens, outermost, without_marks}
 use Rattle.pvs_parser.specs.Units.{DerivesIds}
-use Rattle.pvs_parser.specs.Descent.{after, entries, list_from}
-use Rattle.pvs_parser.specs.UnitDescent.{name, ids}
+use Rattle.pvs_parser.specs.code.Descent.{after, entries, list_from}
+use Rattle.pvs_parser.specs.code.UnitDescent.{name, ids}
 use Rattle.pvs_parser.proofs.Yields.{Yields, here, bind, cases, weaken}
 use Rattle.pvs_parser.proofs.Gets.{Gets, found, then_, there, absent, names, after_is, after_other, from}
 use Rattle.pvs_parser.proofs.DescentSteps.{Comes, after_yields, id_bind, AtMost, below_at_most, fewer, entries_at_most, one_more, enough_entries, Splits, put, alone}

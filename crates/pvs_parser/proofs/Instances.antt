@@ -11,8 +11,8 @@ use Rattle.pvs_parser.specs.Terminals.{Is, IsId, same_kind}
 use Rattle.pvs_parser.specs.Language as l
 use Rattle.pvs_parser.specs.Language.{Limit, Item, Tokens, Derives, instance, outermost}
 use Rattle.pvs_parser.specs.Units.{DerivesInstances, DerivesImporting}
-use Rattle.pvs_parser.specs.Descent.{after}
-use Rattle.pvs_parser.specs.UnitDescent.{inst, instances_from, importing}
+use Rattle.pvs_parser.specs.code.Descent.{after}
+use Rattle.pvs_parser.specs.code.UnitDescent.{inst, instances_from, importing}
 use Rattle.pvs_parser.proofs.Yields.{Yields, here, none, bind, cases, weaken}
 use Rattle.pvs_parser.proofs.Gets.{Gets, found, then_, there, absent, names, after_is, after_other, both, unglue, from}
 use Rattle.pvs_parser.proofs.DescentSteps.{Comes, after_yields, id_bind, Splits, glue, put, alone}

@@ -3,8 +3,8 @@ use Rattle.std.proofs.Common.{◌≡◌, ℕ, zero, suc, ◌-◌, ◌<◌, refl,
 use Rattle.pvs_parser.specs.declared.nesting.Nesting.{Nesting}
 use Rattle.pvs_parser.specs.declared.start.Start.{Start}
 use Rattle.pvs_parser.specs.Language.{Limit, language_limit, Tokens}
-use Rattle.pvs_parser.specs.Descent.{Readers, reader, next_readers, expr_with, type_with, stop}
-use Rattle.pvs_parser.specs.Nests.{bounded_reader}
+use Rattle.pvs_parser.specs.code.Descent.{Readers, reader, next_readers, expr_with, type_with, stop}
+use Rattle.pvs_parser.specs.code.Nests.{bounded_reader}
 
 reader-limit : (limit : Limit) (room : ℕ) → (reader limit room).limit ≡ limit
 unfolding reader

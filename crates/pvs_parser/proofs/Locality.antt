@@ -23,7 +23,7 @@ use Rattle.pvs_syntax.specs.declared.expression.TypeExpr.{TypeExpr}
 use Rattle.pvs_syntax.specs.declared.expression.TypeExpr.TheVariants as type_expr
 use Rattle.pvs_parser.specs.Terminals.{IsId, is_id, same_kind}
 use Rattle.pvs_parser.specs.Language.{Tokens, Limit, Item, in_frame, without_marks, with_mark, with_lasting_mark, sign, operator, simple_name, name_with_theory, instance, typed_binding, untyped_binding, equation, empty_word, group_tree, begins_type}
-use Rattle.pvs_parser.specs.Descent.{Answer, Read, Readers, either, begins, begins_of, prefix, stop, too_many, nested_expr, after, id, label_of, mark, parameter_of, parameter_with, unnamed_with, typed_with, component_with, variable_with, bare_variable, value_with, definition_with, item_with, end_of_list, list_from, starts_expr, starts_type, starts_item, entries, list_with, framed_with, name_of, instance_name_with, name_after, group_with, condition_with, cond_with, if_with, name_term_with, first_of, first_with, call_mark, call_with, project, term_from, term_with, body_with, bindings_with, bare_bindings_with, binder_with, let_with, not_with, prefixed_with, last_with, compared_from, comparison_with, operand_with, chain_after, chain_on, between_with, chain_with, else_with, elsif_with, otherwise_of, otherwise_with, pred_type_with, base_with, sub_type_with, fun_type_with, tuple_type, bracket_type_with, name_type_with, type_of, type_with, expr_with, next_readers, reader}
+use Rattle.pvs_parser.specs.code.Descent.{Answer, Read, Readers, either, begins, begins_of, prefix, stop, too_many, nested_expr, after, id, label_of, mark, parameter_of, parameter_with, unnamed_with, typed_with, component_with, variable_with, bare_variable, value_with, definition_with, item_with, end_of_list, list_from, starts_expr, starts_type, starts_item, entries, list_with, framed_with, name_of, instance_name_with, name_after, group_with, condition_with, cond_with, if_with, name_term_with, first_of, first_with, call_mark, call_with, project, term_from, term_with, body_with, bindings_with, bare_bindings_with, binder_with, let_with, not_with, prefixed_with, last_with, compared_from, comparison_with, operand_with, chain_after, chain_on, between_with, chain_with, else_with, elsif_with, otherwise_of, otherwise_with, pred_type_with, base_with, sub_type_with, fun_type_with, tuple_type, bracket_type_with, name_type_with, type_of, type_with, expr_with, next_readers, reader}
 use Rattle.pvs_base.specs.Answers.{◌>>=◌}
 use Rattle.pvs_parser.proofs.DescentSound.{reader_limit}
 use Rattle.pvs_parser.proofs.Cuts.{Cut, Mode, Meets, Took, Low, Shape, two, three, four, Goes, Shrinks, Agrees, Takes, Enters, Opens, Later, low_later, Rooms, beyond, bind, done_two, done_three, done_four, weaken, low_less, low_more, raise, heads, stops, pick, after_or, bind_later, after_later, compares_later, begins_later, compares_past, begins_past, room_past, later_trans, bind_past, after_past, too_many_goes, expect_then, id_then, number_then, begins_or, room_then, length_cut}

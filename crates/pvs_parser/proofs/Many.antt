@@ -7,9 +7,9 @@ use Rattle.pvs_syntax.specs.declared.unit.Decl.{Decl}
 use Rattle.pvs_parser.specs.Terminals.{Is, same_kind}
 use Rattle.pvs_parser.specs.Language.{Tokens}
 use Rattle.pvs_parser.specs.Units.{DerivesSemicolon, DerivesMany}
-use Rattle.pvs_parser.specs.Descent.{Answer, after, either}
+use Rattle.pvs_parser.specs.code.Descent.{Answer, after, either}
 use Rattle.pvs_base.specs.Answers.{◌>>=◌}
-use Rattle.pvs_parser.specs.UnitDescent.{comes_kind, comes_decl, past_semicolon, many_from}
+use Rattle.pvs_parser.specs.code.UnitDescent.{comes_kind, comes_decl, past_semicolon, many_from}
 use Rattle.pvs_parser.proofs.Yields.{Yields, here, bind, weaken}
 use Rattle.pvs_parser.proofs.Gets.{Gets, found, after_is, after_other}
 use Rattle.pvs_parser.proofs.DescentSteps.{after_yields, Splits, glue, alone, nothing}

@@ -3,7 +3,7 @@ use Rattle.std.proofs.Common.{◌≡◌, ◌∙◌, ◌+◌, [], ◌∷◌, ◌+
 use Rattle.pvs_parser.specs.declared.nesting.Nesting.{Nesting}
 use Rattle.pvs_syntax.specs.declared.expression.Expr.{Expr}
 use Rattle.pvs_parser.specs.Language.{Limit, Tokens, Derives, Ending, language_limit, outermost, whole, ReadsExpr}
-use Rattle.pvs_parser.specs.Descent.{Answer, at_end, expression}
+use Rattle.pvs_parser.specs.code.Descent.{Answer, at_end, expression}
 use Rattle.pvs_parser.proofs.Yields.{Yields, here, none, bind, weaken}
 use Rattle.pvs_parser.proofs.Gets.{then_, found}
 use Rattle.pvs_parser.proofs.Wholes.{read_expr_sound, read_expr_complete, nothing_follows}

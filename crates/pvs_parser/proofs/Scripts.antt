@@ -8,9 +8,9 @@ use Rattle.pvs_syntax.specs.declared.unit.Proof.{Proof}
 use Rattle.pvs_parser.specs.Terminals.{Is, IsId}
 use Rattle.pvs_parser.specs.Language.{Limit, IsBelow, Tokens}
 use Rattle.pvs_parser.specs.Units.{Balanced, DerivesProof, is_plain}
-use Rattle.pvs_parser.specs.Descent.{Answer, too_deep, is_below}
+use Rattle.pvs_parser.specs.code.Descent.{Answer, too_deep, is_below}
 use Rattle.pvs_base.specs.Answers.{◌>>=◌}
-use Rattle.pvs_parser.specs.UnitDescent.{closing_parenthesis_of, closing_parenthesis, script, target, proof}
+use Rattle.pvs_parser.specs.code.UnitDescent.{closing_parenthesis_of, closing_parenthesis, script, target, proof}
 use Rattle.pvs_parser.proofs.Yields.{Yields, here, none, bind, weaken}
 use Rattle.pvs_parser.proofs.Gets.{Gets, found, then_, takes, names}
 use Rattle.pvs_parser.proofs.DescentSteps.{expect_yields, id_bind, below_is, is_below_is, Splits, glue, put, alone, nothing}

@@ -8,10 +8,10 @@ use Rattle.pvs_base.specs.Place.{place_after}
 use Rattle.pvs_syntax.specs.declared.expression.Expr.{Expr}
 use Rattle.pvs_syntax.specs.declared.unit.Unit as tree
 use Rattle.pvs_parser.specs.Language.{IsBelow, language_limit}
-use Rattle.pvs_parser.specs.Descent.{Answer, expression}
-use Rattle.pvs_parser.specs.UnitDescent.{unit}
+use Rattle.pvs_parser.specs.code.Descent.{Answer, expression}
+use Rattle.pvs_parser.specs.code.UnitDescent.{unit}
 use Rattle.pvs_parser.specs.Faults.{AwaitsName}
-use Rattle.pvs_parser.specs.Reading.{unless_fault, tree_or_fault, read_text, read_span}
+use Rattle.pvs_parser.specs.code.Reading.{unless_fault, tree_or_fault, read_text, read_span}
 use Rattle.pvs_parser.specs.Text.{Terminals, first_place, terminals_of_text, Reads, IsUnit, IsFirstFault, IsAnswer, terminals_of_span, IsExpr, NeverAwaitsName, ReadsSpan, IsFirstFaultOfSpan, IsSpanAnswer, HasAnswer, HasSpanAnswer}
 use Rattle.pvs_base.specs.Spans.{span_of}
 use Rattle.pvs_parser.proofs.FirstFault.{one_first, no_first, first_fault}

@@ -6,7 +6,7 @@ use Rattle.pvs_parser.specs.declared.failure.Stop.{Stop}
 use Rattle.pvs_parser.specs.Language.{Tokens, Limit, language_limit}
 use Rattle.pvs_syntax.specs.declared.unit.Item.{Item}
 use Rattle.pvs_parser.specs.Units.{DerivesItems}
-use Rattle.pvs_parser.specs.UnitDescent.{unit}
+use Rattle.pvs_parser.specs.code.UnitDescent.{unit}
 use Rattle.pvs_parser.specs.Faults.{Begins, IsViablePrefix, AwaitsName}
 use Rattle.pvs_parser.specs.Text.{IsUnit}
 use Rattle.pvs_parser.proofs.WholeUnits.{unit_sound, unit_complete}

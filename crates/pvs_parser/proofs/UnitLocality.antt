@@ -22,9 +22,9 @@ use Rattle.pvs_parser.specs.Terminals.{IsId, is_id, same_kind}
 use Rattle.pvs_parser.specs.Language.{Tokens, Limit, Item as ListItem, instance, without_marks, outermost, in_frame}
 use Rattle.pvs_parser.specs.Units.{DerivesDecl, DerivesAssumed, type_formal, const_formal, type_decl, var_decl, const_decl, formula_of}
 use Rattle.pvs_syntax.specs.Words.{spelling}
-use Rattle.pvs_parser.specs.Descent.{Answer, Read, either, stop, too_many, too_deep, after, expect, id, is_below, end_of_list, list_from, entries}
+use Rattle.pvs_parser.specs.code.Descent.{Answer, Read, either, stop, too_many, too_deep, after, expect, id, is_below, end_of_list, list_from, entries}
 use Rattle.pvs_base.specs.Answers.{◌>>=◌}
-use Rattle.pvs_parser.specs.UnitDescent.{expr, type, name, ids, actuals, inst, instances_from, importing, plus, formal_of, formal_after, formal, formals_from, formals, formal_part, variables, body, constant, function, constants, type_definition, type_decls, types, formula, formulas, formulas_or_constants, decls_of_kind, decls_after_colon, declaration_of_names, declaration_from_id, declaration, assuming_decls_of_kind, assuming_decls_after_colon, assuming_decl, comes_kind, comes_decl, past_semicolon, many_from, declarations, assumptions, assuming_part, heading, same_name, ending, theory, closing_parenthesis_of, closing_parenthesis, script, target, proof, one_item, items_from, unit}
+use Rattle.pvs_parser.specs.code.UnitDescent.{expr, type, name, ids, actuals, inst, instances_from, importing, plus, formal_of, formal_after, formal, formals_from, formals, formal_part, variables, body, constant, function, constants, type_definition, type_decls, types, formula, formulas, formulas_or_constants, decls_of_kind, decls_after_colon, declaration_of_names, declaration_from_id, declaration, assuming_decls_of_kind, assuming_decls_after_colon, assuming_decl, comes_kind, comes_decl, past_semicolon, many_from, declarations, assumptions, assuming_part, heading, same_name, ending, theory, closing_parenthesis_of, closing_parenthesis, script, target, proof, one_item, items_from, unit}
 use Rattle.pvs_parser.proofs.Yields.{Yields}
 use Rattle.pvs_parser.proofs.Deeper.{Fore}
 use Rattle.pvs_parser.proofs.Decls.{declaration_sound, assumed_sound}

@@ -11,14 +11,14 @@ use Rattle.pvs_syntax.specs.declared.unit.Item.{Item}
 use Rattle.pvs_syntax.specs.declared.unit.Unit as tree
 use Rattle.pvs_parser.specs.declared.declarations.TheoryPart.{TheoryPart}
 use Rattle.pvs_parser.specs.Language.{Limit, language_limit, Tokens, outermost}
-use Rattle.pvs_parser.specs.Descent.{Answer, Read, after, id, stop, at_end, list_from}
+use Rattle.pvs_parser.specs.code.Descent.{Answer, Read, after, id, stop, at_end, list_from}
 use Rattle.pvs_base.specs.Answers.{◌>>=◌}
-use Rattle.pvs_parser.specs.Nests.{comes, end_of_list_at}
+use Rattle.pvs_parser.specs.code.Nests.{comes, end_of_list_at}
 use Rattle.pvs_parser.specs.Terminals.{is_id}
 use Rattle.pvs_parser.proofs.DescentTurns.{crowded-at}
-use Rattle.pvs_parser.specs.Steps.{declaration_in}
-use Rattle.pvs_parser.specs.UnitDescent as spec
-use Rattle.pvs_parser.specs.UnitDescent.{instances_from, inst, formals_from, formal, many_from, comes_decl, past_semicolon, items_from, one_item}
+use Rattle.pvs_parser.specs.code.Steps.{declaration_in}
+use Rattle.pvs_parser.specs.code.UnitDescent as spec
+use Rattle.pvs_parser.specs.code.UnitDescent.{instances_from, inst, formals_from, formal, many_from, comes_decl, past_semicolon, items_from, one_item}
 
 turn : {X : Type 0} (f : ℕ → X) (n at : ℕ) → at < n → f (n - at) ≡ f (suc (n - (at + 1)))
 turn f n at below = let e : n - at ≡ suc (n - (at + 1)) = omega arith in ap f e

@@ -12,8 +12,8 @@ use Rattle.pvs_parser.specs.Terminals.{Is, IsId}
 use Rattle.pvs_parser.specs.Language.{Limit, IsBelow, Tokens}
 use Rattle.pvs_parser.specs.Units.{DerivesFormalPart, DerivesDecl, DerivesAssumed, DerivesMany, DerivesAssuming, DerivesTheory}
 use Rattle.pvs_syntax.specs.Words.{spelling}
-use Rattle.pvs_parser.specs.Descent.{after}
-use Rattle.pvs_parser.specs.UnitDescent.{declaration, assuming_decl, assumptions, assuming_part, heading, same_name, ending, theory, many_from}
+use Rattle.pvs_parser.specs.code.Descent.{after}
+use Rattle.pvs_parser.specs.code.UnitDescent.{declaration, assuming_decl, assumptions, assuming_part, heading, same_name, ending, theory, many_from}
 use Rattle.pvs_parser.proofs.Yields.{Yields, here, none, bind, cases}
 use Rattle.pvs_parser.proofs.Gets.{Gets, found, then_, there, absent, takes, names, after_is, both, unglue, from}
 use Rattle.pvs_parser.proofs.DescentSteps.{after_yields, expect_yields, id_bind, Splits, glue, put, alone, nothing}

@@ -11,8 +11,8 @@ use Rattle.pvs_syntax.specs.declared.unit.Unit as tree
 use Rattle.pvs_parser.specs.Terminals.{is_id, same_kind}
 use Rattle.pvs_parser.specs.Language.{Limit, IsBelow, Tokens}
 use Rattle.pvs_parser.specs.Units.{DerivesTheory, DerivesProof, DerivesItems, DerivesUnit}
-use Rattle.pvs_parser.specs.Descent.{Answer, after}
-use Rattle.pvs_parser.specs.UnitDescent.{one_item, items_from, unit}
+use Rattle.pvs_parser.specs.code.Descent.{Answer, after}
+use Rattle.pvs_parser.specs.code.UnitDescent.{one_item, items_from, unit}
 use Rattle.pvs_parser.proofs.Yields.{Yields, here, none, bind, cases, weaken}
 use Rattle.pvs_parser.proofs.Gets.{Gets, found, then_, there, absent, after_is, after_other}
 use Rattle.pvs_parser.proofs.DescentSteps.{after_yields}

@@ -13,7 +13,7 @@ use Rattle.pvs_syntax.specs.declared.expression.InstExpr.{InstExpr}
 use Rattle.pvs_syntax.specs.declared.expression.TypeExpr.{TypeExpr}
 use Rattle.pvs_parser.specs.Terminals.{Is, IsId, is_id, same_kind}
 use Rattle.pvs_parser.specs.Language.{Limit, Tokens, HasRoom, Derives, Ending, Item, ItemTree, Nonterminal, instance, list, inst, type_, TreeOf, in_frame, whole}
-use Rattle.pvs_parser.specs.Descent.{nested_expr, framed_with, reader}
+use Rattle.pvs_parser.specs.code.Descent.{nested_expr, framed_with, reader}
 use Rattle.pvs_parser.proofs.Follows.{pull_of, Ends}
 use Rattle.pvs_parser.proofs.Heads.{TypeFirst, heads}
 use Rattle.pvs_parser.proofs.Nonempty.{nonempty}

@@ -12,7 +12,7 @@ use Rattle.pvs_syntax.specs.declared.expression.Expr.TheVariants as expr
 use Rattle.pvs_syntax.specs.declared.expression.InfixWord.TheVariants as words
 use Rattle.pvs_parser.specs.Terminals.{same_kind}
 use Rattle.pvs_parser.specs.Language.{language_limit, simple_name, untyped_binding}
-use Rattle.pvs_parser.specs.Descent.{Answer, expression, reader, list_from, term_from, compared_from}
+use Rattle.pvs_parser.specs.code.Descent.{Answer, expression, reader, list_from, term_from, compared_from}
 
 abbrev word : ℕ → Word
 word n = record { start = n; end = n; pos = record { line = 1; col = 1 } }

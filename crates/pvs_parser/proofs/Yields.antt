@@ -1,7 +1,7 @@
 -- What is read, and what comes next, satisfies.
 use Rattle.std.proofs.Common.{◌≡◌, Option, Some, None, Ok, Err, refl, subst}
 use Rattle.pvs_parser.specs.declared.failure.Stop.{Stop}
-use Rattle.pvs_parser.specs.Descent.{Answer, either}
+use Rattle.pvs_parser.specs.code.Descent.{Answer, either}
 use Rattle.pvs_base.specs.Answers.{◌>>=◌}
 
 -- what an answer that is good satisfies

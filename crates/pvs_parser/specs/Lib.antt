@@ -1,11 +1,7 @@
 pub mod Terminals
 pub mod Language
-pub mod Descent
-pub mod Nests
 pub mod Units
-pub mod UnitDescent
 pub mod FirstTokens
 pub mod Faults
 pub mod Text
-pub mod Reading
-pub mod Steps
+pub mod code

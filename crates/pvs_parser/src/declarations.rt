@@ -1,11 +1,11 @@
 //! Declarations of theories.
 
 ghost use Rattle.std.specs.Prelude.{◌≡◌, ◌<◌, ◌∷◌, [], length, map, IfOk};
-ghost use Rattle.pvs_parser.specs.Descent.{Gives};
+ghost use Rattle.pvs_parser.specs.code.Descent.{Gives};
 ghost use Rattle.pvs_parser.specs.Language.{language_limit, outermost};
-ghost use Rattle.pvs_parser.specs.Steps.{each, declaration_in};
+ghost use Rattle.pvs_parser.specs.code.Steps.{each, declaration_in};
 ghost use Rattle.pvs_parser.specs.Units.{type_decl, const_decl, formula_of};
-ghost use Rattle.pvs_parser.specs.UnitDescent as spec;
+ghost use Rattle.pvs_parser.specs.code.UnitDescent as spec;
 
 use crate::descent;
 use crate::failure::Failure;

@@ -2,10 +2,10 @@
 //! is proved by itself.
 
 ghost use Rattle.std.specs.Prelude.{◌≡◌};
-ghost use Rattle.pvs_parser.specs.Descent.{Gives, reader};
-ghost use Rattle.pvs_parser.specs.Descent as spec;
+ghost use Rattle.pvs_parser.specs.code.Descent.{Gives, reader};
+ghost use Rattle.pvs_parser.specs.code.Descent as spec;
 ghost use Rattle.pvs_parser.specs.Language.{language_limit, Parameter, Variable};
-ghost use Rattle.pvs_parser.specs.Nests.{Nests, bounded_reader};
+ghost use Rattle.pvs_parser.specs.code.Nests.{Nests, bounded_reader};
 
 use crate::failure::Failure;
 use crate::nesting::Nesting;

@@ -2,9 +2,9 @@
 
 ghost use Rattle.std.specs.Prelude.{◌≡◌, ◌≤◌, ◌^◌, length};
 ghost use Rattle.pvs_base.specs.Place.{place_after};
-ghost use Rattle.pvs_parser.specs.Reading.{report_of};
+ghost use Rattle.pvs_parser.specs.code.Reading.{report_of};
 ghost use Rattle.pvs_parser.specs.Faults as faults;
-ghost use Rattle.pvs_parser.specs.Reading as spec;
+ghost use Rattle.pvs_parser.specs.code.Reading as spec;
 
 use crate::failure::{Failure, ParseFault, Reason, Stop};
 use crate::terminal::{Terminal, TerminalKind};

@@ -1,11 +1,11 @@
 //! Formal parameters of theories.
 
 ghost use Rattle.std.specs.Prelude.{◌≡◌, ◌<◌, [], length, map, IfOk};
-ghost use Rattle.pvs_parser.specs.Descent.{Gives};
+ghost use Rattle.pvs_parser.specs.code.Descent.{Gives};
 ghost use Rattle.pvs_parser.specs.Language.{language_limit, in_frame, outermost};
-ghost use Rattle.pvs_parser.specs.Steps.{each};
+ghost use Rattle.pvs_parser.specs.code.Steps.{each};
 ghost use Rattle.pvs_parser.specs.Units.{type_formal, const_formal};
-ghost use Rattle.pvs_parser.specs.UnitDescent as spec;
+ghost use Rattle.pvs_parser.specs.code.UnitDescent as spec;
 
 use crate::descent::{CALLS, type_expr};
 use crate::failure::Failure;

@@ -1,10 +1,10 @@
 //! Lists with commas between their items: at most 200 of them.
 
 ghost use Rattle.std.specs.Prelude.{◌≡◌, []};
-ghost use Rattle.pvs_parser.specs.Descent.{Gives};
-ghost use Rattle.pvs_parser.specs.Descent as spec;
+ghost use Rattle.pvs_parser.specs.code.Descent.{Gives};
+ghost use Rattle.pvs_parser.specs.code.Descent as spec;
 ghost use Rattle.pvs_parser.specs.Language.{Expression, Parameter, Component, Variable, BareVariable, Definition};
-ghost use Rattle.pvs_parser.specs.Nests.{Nests, ReadsItems, bounded_reader, end_of_list_at};
+ghost use Rattle.pvs_parser.specs.code.Nests.{Nests, ReadsItems, bounded_reader, end_of_list_at};
 
 use crate::descent::{Descent, Read};
 use crate::failure::Failure;

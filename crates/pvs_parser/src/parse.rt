@@ -5,10 +5,10 @@ ghost use Rattle.pvs_base.specs.declared.code.Fault as fault;
 ghost use Rattle.pvs_base.specs.declared.place.Pos as place;
 ghost use Rattle.pvs_syntax.specs.declared.expression.Expr as tree_expr;
 ghost use Rattle.pvs_syntax.specs.declared.unit.Unit as tree;
-ghost use Rattle.pvs_parser.specs.Reading.{Returns};
+ghost use Rattle.pvs_parser.specs.code.Reading.{Returns};
 ghost use Rattle.pvs_parser.specs.Text.{Reads, IsFirstFault, IsAnswer, Answers, ReadsSpan, IsFirstFaultOfSpan, AnswersSpan, IsSpanAnswer, AnswersTree, AnswersFault, SpansIn, HasAnswer, HasSpanAnswer};
 ghost use Rattle.pvs_syntax.specs.Trees.{IsTreeOf, IsTreeOfTerm};
-ghost use Rattle.pvs_parser.specs.Reading as spec;
+ghost use Rattle.pvs_parser.specs.code.Reading as spec;
 
 use crate::descent::expression;
 use crate::failure::ParseFault;

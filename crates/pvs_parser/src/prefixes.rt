@@ -1,9 +1,9 @@
 //! What NOT, a binder or LET begins.
 
 ghost use Rattle.std.specs.Prelude.{◌≡◌};
-ghost use Rattle.pvs_parser.specs.Descent.{Gives};
-ghost use Rattle.pvs_parser.specs.Descent as spec;
-ghost use Rattle.pvs_parser.specs.Nests.{Nests, bounded_reader};
+ghost use Rattle.pvs_parser.specs.code.Descent.{Gives};
+ghost use Rattle.pvs_parser.specs.code.Descent as spec;
+ghost use Rattle.pvs_parser.specs.code.Nests.{Nests, bounded_reader};
 
 use crate::descent::{Descent, Read};
 use crate::nesting::Nesting;

@@ -1,9 +1,9 @@
 //! Proofs: their targets, and the spans of their scripts.
 
 ghost use Rattle.std.specs.Prelude.{◌≡◌, ◌<◌};
-ghost use Rattle.pvs_parser.specs.Descent.{Gives};
+ghost use Rattle.pvs_parser.specs.code.Descent.{Gives};
 ghost use Rattle.pvs_parser.specs.Language.{language_limit};
-ghost use Rattle.pvs_parser.specs.UnitDescent as spec;
+ghost use Rattle.pvs_parser.specs.code.UnitDescent as spec;
 
 use crate::failure::Failure;
 use crate::terminal::{Terminal, TerminalKind};
@@ -14,7 +14,7 @@ use pvs_syntax::{Proof, Word};
 /// The parenthesis that closes a script, after the one that opens it, and the tokens after it.
 ///
 /// Only parentheses count for the level in a script.
-#[tactic(auto, unfolding(crate::specs::UnitDescent::closing_parenthesis))]
+#[tactic(auto, unfolding(crate::specs::code::UnitDescent::closing_parenthesis))]
 fn balanced(tokens: &[Terminal]) -> Result<(Word, &[Terminal]), Failure>
     ensures { Gives (λ p. (p.0, p.1.now)) result (spec.closing_parenthesis language_limit 0 tokens.now) }
 {

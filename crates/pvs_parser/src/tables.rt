@@ -3,7 +3,7 @@
 ghost use Rattle.std.specs.Prelude.{◌≡◌};
 ghost use Rattle.pvs_parser.specs.Terminals as terminals;
 ghost use Rattle.pvs_parser.specs.Language as language;
-ghost use Rattle.pvs_parser.specs.Descent as spec;
+ghost use Rattle.pvs_parser.specs.code.Descent as spec;
 
 use crate::terminal::{Connective, Prefix, TerminalKind};
 use pvs_syntax::{BinderWord, InfixWord};

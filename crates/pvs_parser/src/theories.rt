@@ -1,10 +1,10 @@
 //! Theories.
 
 ghost use Rattle.std.specs.Prelude.{◌≡◌, bytes_eq};
-ghost use Rattle.pvs_parser.specs.Descent.{Gives};
+ghost use Rattle.pvs_parser.specs.code.Descent.{Gives};
 ghost use Rattle.pvs_parser.specs.Language.{language_limit};
 ghost use Rattle.pvs_syntax.specs.Words.{spelling};
-ghost use Rattle.pvs_parser.specs.UnitDescent as spec;
+ghost use Rattle.pvs_parser.specs.code.UnitDescent as spec;
 
 use crate::declarations::{Decls, TheoryPart, declarations};
 use crate::failure::{Failure, Reason, Stop};

@@ -2,9 +2,9 @@
 
 ghost use Rattle.std.specs.Prelude.{◌≡◌, ◌+◌, option_map, length};
 ghost use Rattle.pvs_parser.specs.Terminals.{is_id, same_kind};
-ghost use Rattle.pvs_parser.specs.Nests.{comes};
-ghost use Rattle.pvs_parser.specs.Descent.{Gives};
-ghost use Rattle.pvs_parser.specs.Descent as spec;
+ghost use Rattle.pvs_parser.specs.code.Nests.{comes};
+ghost use Rattle.pvs_parser.specs.code.Descent.{Gives};
+ghost use Rattle.pvs_parser.specs.code.Descent as spec;
 
 use crate::failure::{Failure, Reason, Stop};
 use crate::tables::{begins_type, comparison, is_id, prefix, starts_expr, starts_type};

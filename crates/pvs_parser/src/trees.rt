@@ -1,8 +1,8 @@
 //! Trees from their parts.
 
 ghost use Rattle.std.specs.Prelude.{◌≡◌, IfOk};
-ghost use Rattle.pvs_parser.specs.Descent.{Gives};
-ghost use Rattle.pvs_parser.specs.Descent as spec;
+ghost use Rattle.pvs_parser.specs.code.Descent.{Gives};
+ghost use Rattle.pvs_parser.specs.code.Descent as spec;
 ghost use Rattle.pvs_parser.specs.Language as language;
 ghost use Rattle.pvs_syntax.specs.declared.expression.Expr.TheVariants as the_expr;
 

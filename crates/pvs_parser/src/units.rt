@@ -1,9 +1,9 @@
 //! Units: the theories and the proofs of a text.
 
 ghost use Rattle.std.specs.Prelude.{◌≡◌};
-ghost use Rattle.pvs_parser.specs.Descent.{Gives};
+ghost use Rattle.pvs_parser.specs.code.Descent.{Gives};
 ghost use Rattle.pvs_parser.specs.Language.{language_limit};
-ghost use Rattle.pvs_parser.specs.UnitDescent as spec;
+ghost use Rattle.pvs_parser.specs.code.UnitDescent as spec;
 
 use crate::failure::Failure;
 use crate::proofs::proof;

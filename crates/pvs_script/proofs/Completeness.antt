@@ -11,7 +11,7 @@ use Rattle.pvs_script.specs.declared.state.State.TheVariants as state
 use Rattle.pvs_script.specs.declared.state.OpenTree.{OpenTree}
 use Rattle.pvs_script.specs.declared.state.Prefix.TheVariants as prefix
 use Rattle.pvs_script.specs.Grammar.{Is, DerivesStep, DerivesSteps, DerivesScript, DerivesScripts, BeginsStep, BeginsScript, antecedent_number}
-use Rattle.pvs_script.specs.States.{tree_of, inside, step_of, script_of, state_after, state_after_in}
+use Rattle.pvs_script.specs.code.States.{tree_of, inside, step_of, script_of, state_after, state_after_in}
 use Rattle.pvs_script.proofs.Stacks.{last_push}
 use Rattle.pvs_script.proofs.Runs.{Tokens, run, runs_on, start_goes, open_goes, axiom_goes, if_goes, number_goes, minus_goes, negated_goes, step_goes, close_goes, enters, HasStep}
 

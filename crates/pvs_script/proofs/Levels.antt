@@ -14,7 +14,7 @@ use Rattle.pvs_script.specs.declared.state.OpenTree.{OpenTree}
 use Rattle.pvs_script.specs.declared.state.Prefix.{Prefix}
 use Rattle.pvs_script.specs.declared.state.Prefix.TheVariants as prefix
 use Rattle.pvs_script.specs.Grammar.{opens, closes, level}
-use Rattle.pvs_script.specs.States.{script_of, with_first, last_of, state_after, closed, in_step, in_tree, after_whole, after_open, after_if, after_minus, after_step, first_state, next_inside, next_state, prefix_depth, depth}
+use Rattle.pvs_script.specs.code.States.{script_of, with_first, last_of, state_after, closed, in_step, in_tree, after_whole, after_open, after_if, after_minus, after_step, first_state, next_inside, next_state, prefix_depth, depth}
 use Rattle.pvs_script.proofs.Runs.{Tokens, run, bound, some_same}
 
 -- what a token of a sort makes of a number of open parentheses

@@ -12,7 +12,7 @@ use Rattle.pvs_script.specs.declared.state.OpenTree.{OpenTree}
 use Rattle.pvs_script.specs.declared.state.Prefix.{Prefix}
 use Rattle.pvs_script.specs.declared.state.Prefix.TheVariants as prefix
 use Rattle.pvs_script.specs.Grammar.{Is, DerivesStep, DerivesSteps, DerivesScript, DerivesScripts, BeginsStep, BeginsScript, antecedent_number}
-use Rattle.pvs_script.specs.States.{tree_of, inside, step_of, with_step, script_of, state_after, state_after_in, closed, in_step, in_tree, after_whole, after_open, after_if, after_minus, after_step, first_state, next_state}
+use Rattle.pvs_script.specs.code.States.{tree_of, inside, step_of, with_step, script_of, state_after, state_after_in, closed, in_step, in_tree, after_whole, after_open, after_if, after_minus, after_step, first_state, next_state}
 use Rattle.pvs_script.proofs.Stacks.{last_push}
 use Rattle.pvs_script.proofs.Runs.{Tokens, run, bound, some_same}
 

@@ -10,8 +10,8 @@ use Rattle.pvs_script.specs.declared.state.State.{State}
 use Rattle.pvs_script.specs.declared.state.State.TheVariants as state
 use Rattle.pvs_script.specs.Grammar.{BeginsScript}
 use Rattle.pvs_script.specs.Faults.{MayBegin, AllMayBegin, IsRefused}
-use Rattle.pvs_script.specs.States.{next_state, depth, is_deep}
-use Rattle.pvs_script.specs.Reading.{fault_at, within_levels, take_token, take_tokens}
+use Rattle.pvs_script.specs.code.States.{next_state, depth, is_deep}
+use Rattle.pvs_script.specs.code.Reading.{fault_at, within_levels, take_token, take_tokens}
 use Rattle.pvs_base.specs.Answers.{◌>>=◌}
 use Rattle.pvs_script.proofs.Runs.{Tokens, bind, run, runs_on}
 use Rattle.pvs_script.proofs.Completeness.{begins_runs}

@@ -10,7 +10,7 @@ use Rattle.pvs_script.specs.declared.state.State.TheVariants as state
 use Rattle.pvs_script.specs.declared.state.OpenTree.{OpenTree}
 use Rattle.pvs_script.specs.declared.state.Prefix.TheVariants as prefix
 use Rattle.pvs_script.specs.Grammar.{Is, antecedent_number}
-use Rattle.pvs_script.specs.States.{tree_of, inside, step_of, with_step, script_of, state_after, closed, in_tree, after_whole, after_open, after_if, after_minus, after_step, first_state, next_state}
+use Rattle.pvs_script.specs.code.States.{tree_of, inside, step_of, with_step, script_of, state_after, closed, in_tree, after_whole, after_open, after_if, after_minus, after_step, first_state, next_state}
 
 abbrev pub Tokens : Type 0
 Tokens = List Lexeme

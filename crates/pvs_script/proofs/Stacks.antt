@@ -1,7 +1,7 @@
 -- The last of a list of open trees.
 use Rattle.std.proofs.Common.{◌≡◌, ap, List, [], ◌∷◌, ◌++◌, Some, refl}
 use Rattle.pvs_script.specs.declared.state.OpenTree.{OpenTree}
-use Rattle.pvs_script.specs.States.{with_first, last_of}
+use Rattle.pvs_script.specs.code.States.{with_first, last_of}
 
 pub last_push : (trees : List OpenTree) (tree : OpenTree) → last_of (trees ++ tree ∷ []) ≡ Some (trees, tree)
 last_push [] tree = refl

@@ -7,7 +7,7 @@ use Rattle.pvs_lexer.specs.Answers.{first_of, after_first, answer_of, after_answ
 use Rattle.pvs_lexer.specs.Tokens.{TokenStream}
 use Rattle.pvs_script.specs.declared.state.State.{State}
 use Rattle.pvs_script.specs.Tokens.{lexeme}
-use Rattle.pvs_script.specs.Reading.{take_token, take_tokens, read_tokens}
+use Rattle.pvs_script.specs.code.Reading.{take_token, take_tokens, read_tokens}
 use Rattle.pvs_base.specs.Answers.{◌>>=◌}
 
 pub bind_bind : {A B C : Type 0} (r : Result A Fault) (f : A → Result B Fault) (g : B → Result C Fault) → ((r >>= f) >>= g) ≡ (r >>= λ x. f x >>= g)

@@ -14,7 +14,7 @@ use Rattle.pvs_script.specs.declared.state.State.TheVariants as state
 use Rattle.pvs_script.specs.Tokens.{script_tokens, lexemes, end_place}
 use Rattle.pvs_script.specs.Grammar.{DerivesScript, BeginsScript, IsShallow, IsScript}
 use Rattle.pvs_script.specs.Faults.{AllMayBegin, IsRefused, IsFirstFault, IsScriptAnswer}
-use Rattle.pvs_script.specs.Reading.{Gives, fault_at, take_token, take_tokens, whole, ending, read_span, script_of}
+use Rattle.pvs_script.specs.code.Reading.{Gives, fault_at, take_token, take_tokens, whole, ending, read_span, script_of}
 use Rattle.pvs_base.specs.Answers.{◌>>=◌}
 use Rattle.pvs_script.proofs.Runs.{Tokens, bind, run, run-append, some_same}
 use Rattle.pvs_script.proofs.Completeness.{whole_taken}

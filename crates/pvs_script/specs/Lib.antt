@@ -1,5 +1,4 @@
 pub mod Tokens
 pub mod Grammar
 pub mod Faults
-pub mod States
-pub mod Reading
+pub mod code

@@ -8,8 +8,8 @@ ghost use Rattle.pvs_script.specs.declared.lexeme.Lexeme as lexeme;
 ghost use Rattle.pvs_script.specs.declared.tree.Script as tree;
 ghost use Rattle.pvs_script.specs.Grammar.{DerivesScript, IsScript};
 ghost use Rattle.pvs_script.specs.Faults.{IsFirstFault, IsScriptAnswer};
-ghost use Rattle.pvs_script.specs.Reading.{Gives, script_of};
-ghost use Rattle.pvs_script.specs.Reading as spec;
+ghost use Rattle.pvs_script.specs.code.Reading.{Gives, script_of};
+ghost use Rattle.pvs_script.specs.code.Reading as spec;
 
 use crate::fault::ScriptFault;
 use crate::lexeme::Lexeme;
@@ -68,7 +68,7 @@ fn whole(span: &[u8], pos: Pos, state: State) -> Result<Script, ScriptFault>
     }
 }
 
-#[tactic(auto, unfolding(crate::specs::Reading::read_span))]
+#[tactic(auto, unfolding(crate::specs::code::Reading::read_span))]
 fn read_span(alloc: Global, span: &[u8], pos: Pos) -> Result<Script, ScriptFault>
     requires span { length span.now ≤ 2 ^ 20 }
     requires line { pos.line ≤ 2 ^ 30 }

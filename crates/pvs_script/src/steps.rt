@@ -2,7 +2,7 @@
 
 ghost use Rattle.std.specs.Prelude.{◌≡◌, IfOk, []};
 ghost use Rattle.pvs_script.specs.Grammar.{antecedent_number};
-ghost use Rattle.pvs_script.specs.States as spec;
+ghost use Rattle.pvs_script.specs.code.States as spec;
 
 use crate::lexeme::{Lexeme, Sort};
 use crate::state::{Nest, OpenTree, Prefix, State};

@@ -1,6 +1,6 @@
 use Rattle.std.proofs.Common.{◌≡◌, ◌<◌, ◌∙◌, ◌++◌, ◌∷◌, [], length, take, map, rules, ap, sym}
 use Rattle.std.proofs.lemmas.List.{map-append}
-use Rattle.pvs_script.specs.Reading.{script_of}
+use Rattle.pvs_script.specs.code.Reading.{script_of}
 use Rattle.pvs_cli.specs.Names.{is_listed}
 use Rattle.pvs_cli.specs.Shown.{part_shown, parts_shown}
 use Rattle.pvs_cli.specs.Replays.{part_outcome_shown}

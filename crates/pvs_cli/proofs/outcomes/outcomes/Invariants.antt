@@ -1,5 +1,5 @@
 use Rattle.std.proofs.Common.{◌≡◌, [], take}
-use Rattle.pvs_script.specs.Reading.{script_of}
+use Rattle.pvs_script.specs.code.Reading.{script_of}
 use Rattle.pvs_cli.specs.Index.{HasFormulas}
 use Rattle.pvs_cli.specs.Shown.{parts_shown}
 use Rattle.pvs_cli.specs.Replays.{part_outcomes_shown}

@@ -1,5 +1,5 @@
 use Rattle.std.proofs.Common.{◌≡◌, length}
-use Rattle.pvs_lexer.specs.Cursor.{HasRoom, tokens_left}
+use Rattle.pvs_lexer.specs.code.Cursor.{HasRoom, tokens_left}
 use Rattle.pvs_lexer.proofs.cursor.past_blanks.Given as goal
 
 abbrev pub invariant-loop-cursor : goal.invariant-loop-cursor

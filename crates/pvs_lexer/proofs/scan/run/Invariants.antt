@@ -1,6 +1,6 @@
 use Rattle.std.proofs.Common.{◌≡◌, ◌+◌, ◌-◌, ◌≤◌, length, drop}
 use Rattle.std.specs.List.{prefix_len}
-use Rattle.pvs_lexer.specs.Scan.{is_in}
+use Rattle.pvs_lexer.specs.code.Scan.{is_in}
 use Rattle.pvs_lexer.proofs.scan.run.Given as goal
 
 abbrev pub invariant-loop-end : goal.invariant-loop-end

@@ -1,7 +1,7 @@
 use Rattle.std.proofs.Common.{◌≡◌, ◌-◌, [], length}
 use Rattle.pvs_parser.specs.Language.{language_limit}
-use Rattle.pvs_parser.specs.Steps.{declaration_in}
-use Rattle.pvs_parser.specs.UnitDescent as spec
+use Rattle.pvs_parser.specs.code.Steps.{declaration_in}
+use Rattle.pvs_parser.specs.code.UnitDescent as spec
 use Rattle.pvs_parser.proofs.declarations.declarations.Given as goal
 
 -- reading goes on from here

@@ -1,6 +1,6 @@
 use Rattle.pvs_parser.specs.Language.{language_limit, outermost}
 use Rattle.pvs_parser.specs.Units.{const_decl}
-use Rattle.pvs_parser.specs.UnitDescent as spec
+use Rattle.pvs_parser.specs.code.UnitDescent as spec
 use Rattle.pvs_parser.proofs.Each.{are_more, are_all, rest_is}
 use Rattle.std.proofs.Common.{arith}
 use Rattle.pvs_parser.proofs.declarations.plain_constants.Goals as goal

@@ -1,7 +1,7 @@
 use Rattle.std.proofs.Common.{◌≡◌, ◌<◌, take, Ok}
 use Rattle.pvs_parser.specs.Language.{language_limit, outermost}
 use Rattle.pvs_parser.specs.Units.{var_decl}
-use Rattle.pvs_parser.specs.UnitDescent as spec
+use Rattle.pvs_parser.specs.code.UnitDescent as spec
 use Rattle.pvs_parser.proofs.Each.{Are, rest_of}
 use Rattle.pvs_parser.proofs.declarations.variables.Given as goal
 

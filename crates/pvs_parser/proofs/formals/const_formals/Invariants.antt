@@ -1,7 +1,7 @@
 use Rattle.std.proofs.Common.{◌≡◌, ◌<◌, take, Ok}
 use Rattle.pvs_parser.specs.Language.{language_limit, in_frame, outermost}
 use Rattle.pvs_parser.specs.Units.{const_formal}
-use Rattle.pvs_parser.specs.UnitDescent as spec
+use Rattle.pvs_parser.specs.code.UnitDescent as spec
 use Rattle.pvs_parser.proofs.Each.{Are, rest_of}
 use Rattle.pvs_parser.proofs.formals.const_formals.Given as goal
 

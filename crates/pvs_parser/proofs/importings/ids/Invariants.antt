@@ -1,6 +1,6 @@
 use Rattle.std.proofs.Common.{◌≡◌, ◌-◌}
 use Rattle.pvs_parser.specs.Language.{language_limit}
-use Rattle.pvs_parser.specs.UnitDescent as spec
+use Rattle.pvs_parser.specs.code.UnitDescent as spec
 use Rattle.pvs_parser.proofs.UnitTurns.{ids_from}
 use Rattle.pvs_parser.proofs.importings.ids.Given as goal
 

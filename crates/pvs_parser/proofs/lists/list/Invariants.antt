@@ -1,6 +1,6 @@
 use Rattle.std.proofs.Common.{◌≡◌, ◌-◌, []}
-use Rattle.pvs_parser.specs.Descent as spec
-use Rattle.pvs_parser.specs.Nests.{ReadsItems}
+use Rattle.pvs_parser.specs.code.Descent as spec
+use Rattle.pvs_parser.specs.code.Nests.{ReadsItems}
 use Rattle.pvs_parser.proofs.lists.list.Given as goal
 
 -- reading goes on from here

@@ -1,4 +1,4 @@
-use Rattle.pvs_script.specs.Reading.{script_of}
+use Rattle.pvs_script.specs.code.Reading.{script_of}
 use Rattle.pvs_script.proofs.Verdicts.{one_answer, script_answer}
 use Rattle.pvs_script.proofs.reading.one_answer.Goals as goal
 

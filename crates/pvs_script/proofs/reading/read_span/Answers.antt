@@ -1,6 +1,6 @@
 use Rattle.std.proofs.Common.{rules, arith}
 use Rattle.std.proofs.lemmas.Grind.{common_steps}
-use Rattle.pvs_script.specs.Reading.{read_span}
+use Rattle.pvs_script.specs.code.Reading.{read_span}
 use Rattle.pvs_script.proofs.Turns.{token_next}
 use Rattle.pvs_script.proofs.reading.read_span.Goals as goal
 

@@ -1,6 +1,6 @@
 use Rattle.std.proofs.Common.{◌≡◌, ◌+◌, length, Option, Some, None, ℕ}
 use Rattle.pvs_base.specs.declared.code.Fault.{Fault}
-use Rattle.pvs_script.specs.Reading.{read_span, read_tokens}
+use Rattle.pvs_script.specs.code.Reading.{read_span, read_tokens}
 use Rattle.pvs_script.proofs.reading.read_span.Given as goal
 
 abbrev faults : Option Fault → ℕ

@@ -1,6 +1,6 @@
 use Rattle.std.proofs.Common.{length, rules, arith}
 use Rattle.std.proofs.lemmas.Grind.{common_steps}
-use Rattle.pvs_parser.specs.Nests.{bounded_reader}
+use Rattle.pvs_parser.specs.code.Nests.{bounded_reader}
 use Rattle.pvs_parser.proofs.DescentTurns.{compared_turn, compared_end}
 use Rattle.pvs_parser.proofs.descent.Descent.comparison.Goals as goal
 

@@ -1,6 +1,6 @@
 use Rattle.std.proofs.Common.{◌≡◌, ◌-◌}
-use Rattle.pvs_parser.specs.Descent as spec
-use Rattle.pvs_parser.specs.Nests.{bounded_reader}
+use Rattle.pvs_parser.specs.code.Descent as spec
+use Rattle.pvs_parser.specs.code.Nests.{bounded_reader}
 use Rattle.pvs_parser.proofs.descent.Descent.comparison.Given as goal
 
 -- reading goes on from here

@@ -1,6 +1,6 @@
 use Rattle.std.proofs.Common.{length, rules, arith}
 use Rattle.std.proofs.lemmas.Grind.{common_steps}
-use Rattle.pvs_parser.specs.Nests.{bounded_reader}
+use Rattle.pvs_parser.specs.code.Nests.{bounded_reader}
 use Rattle.pvs_parser.proofs.DescentTurns.{term_turn, term_end}
 use Rattle.pvs_parser.proofs.descent.Descent.term.Goals as goal
 use Rattle.pvs_parser.proofs.descent.Descent.term.Goals.{in-Some+in_ok-term-2, in_default+in-Some-after+in_ok-term-3}

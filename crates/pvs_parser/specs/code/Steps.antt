@@ -6,9 +6,9 @@ use Rattle.pvs_syntax.specs.declared.word.Word.{Word}
 use Rattle.pvs_syntax.specs.declared.expression.TypeExpr.{TypeExpr}
 use Rattle.pvs_syntax.specs.declared.unit.Decl.{Decl}
 use Rattle.pvs_parser.specs.Language.{Limit, Tokens}
-use Rattle.pvs_parser.specs.Descent.{Answer}
+use Rattle.pvs_parser.specs.code.Descent.{Answer}
 use Rattle.pvs_base.specs.Answers.{◌>>=◌}
-use Rattle.pvs_parser.specs.UnitDescent.{declaration, assuming_decl}
+use Rattle.pvs_parser.specs.code.UnitDescent.{declaration, assuming_decl}
 
 -- a declaration of a part of a theory
 abbrev pub declaration_in : Limit → TheoryPart → Tokens → Answer (List Decl × Tokens)

@@ -15,8 +15,8 @@ use Rattle.pvs_parser.specs.declared.failure.ParseFault.TheVariants as parse_fau
 use Rattle.pvs_parser.specs.declared.terminal.Terminal.{Terminal}
 use Rattle.pvs_parser.specs.Faults.{code_of, last_fault}
 use Rattle.pvs_parser.specs.Language.{Tokens, language_limit}
-use Rattle.pvs_parser.specs.Descent.{Answer, expression}
-use Rattle.pvs_parser.specs.UnitDescent.{unit}
+use Rattle.pvs_parser.specs.code.Descent.{Answer, expression}
+use Rattle.pvs_parser.specs.code.UnitDescent.{unit}
 use Rattle.pvs_parser.specs.Text.{Terminals, first_place, terminals_of_text, terminals_of_span}
 use Rattle.pvs_base.specs.Spans.{span_of}
 

@@ -11,7 +11,7 @@ use Rattle.pvs_parser.specs.declared.terminal.TerminalKind.{TerminalKind}
 use Rattle.pvs_syntax.specs.declared.expression.Expr.{Expr}
 use Rattle.pvs_syntax.specs.declared.expression.TypeExpr.{TypeExpr}
 use Rattle.pvs_parser.specs.Language.{language_limit, Tokens}
-use Rattle.pvs_parser.specs.Descent.{Readers, Read, Gives, reader}
+use Rattle.pvs_parser.specs.code.Descent.{Readers, Read, Gives, reader}
 
 -- what is read within the limits of the language, with so many forms inside one another at most
 abbrev pub bounded_reader : ℕ → Readers

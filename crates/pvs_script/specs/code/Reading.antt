@@ -15,7 +15,7 @@ use Rattle.pvs_script.specs.declared.tree.Script.{Script}
 use Rattle.pvs_script.specs.declared.state.State.{State}
 use Rattle.pvs_script.specs.declared.state.State.TheVariants as state
 use Rattle.pvs_script.specs.Tokens.{lexeme, script_span}
-use Rattle.pvs_script.specs.States.{next_state, is_deep}
+use Rattle.pvs_script.specs.code.States.{next_state, is_deep}
 
 -- What a function returned is what reading gives, unless memory ran out.
 abbrev pub Fails : {A : Type 0} → ScriptFault → Result A Fault → Type 0

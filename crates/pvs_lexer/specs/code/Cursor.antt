@@ -2,7 +2,7 @@
 use Rattle.std.specs.Prelude.{◌≡◌, ℕ, ◌+◌, ◌≤◌, ◌^◌, max, List, [], ◌∷◌, length}
 use Rattle.pvs_lexer.specs.declared.cursor.Cursor.{Cursor}
 use Rattle.pvs_lexer.specs.Tokens.{TokenStream, tokens_from}
-use Rattle.pvs_lexer.specs.Scan.{blank}
+use Rattle.pvs_lexer.specs.code.Scan.{blank}
 
 -- what is left of a text is short enough for its offsets and its places
 pub record HasRoom (cursor : Cursor) : Type 0 where

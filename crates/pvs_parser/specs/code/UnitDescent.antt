@@ -25,7 +25,7 @@ use Rattle.pvs_parser.specs.Terminals.{is_id}
 use Rattle.pvs_parser.specs.Language.{Limit, Parameter, Variable, Tokens, instance, outermost, in_frame}
 use Rattle.pvs_parser.specs.Units.{type_formal, const_formal, type_decl, var_decl, const_decl, formula_of}
 use Rattle.pvs_syntax.specs.Words.{spelling}
-use Rattle.pvs_parser.specs.Descent.{Answer, either, Read, stop, too_deep, after, expect, id, is_below, enter, Readers, nested_expr, end_of_list, list_from, entries, framed_with, reader}
+use Rattle.pvs_parser.specs.code.Descent.{Answer, either, Read, stop, too_deep, after, expect, id, is_below, enter, Readers, nested_expr, end_of_list, list_from, entries, framed_with, reader}
 use Rattle.pvs_base.specs.Answers.{◌>>=◌}
 
 -- how expressions and types in these tokens are read

@@ -1,0 +1,5 @@
+pub mod Descent
+pub mod UnitDescent
+pub mod Nests
+pub mod Steps
+pub mod Reading
