@@ -1,9 +1,13 @@
 """Units made at random: of the whole grammar, of boolean theories with proofs, and such with a mistake."""
 
 from .grammar import R, RULES, T, before, rule, ways_of
-from .proofs import premises_of
+from .errors import Refused
+from .reading import unit_of
+from .rules import Rules
+from .sequents import Sequent
+from .theories import Checker
 from .tokens import KEYWORDS, OUTSIDE, SYMBOLS, tokens_of
-from .theories import If, entries_of
+from .typing import Typing
 
 NAMES = ['a', 'b', 'p', 'q', 'x', 'T', 'f', 'bool', 'boolean', 'proof', 'nat', 't?', 'open', 'complete']
 BLANKS = [' ', '  ', '\n', '\t', ' % a comment\n', '\r\n']
@@ -98,30 +102,30 @@ def claim(random, names):
     return form.replace('%s', one)
 
 
-def script(random, sequent, depth):
+def script(random, rules, sequent, depth):
     """A script that works on conditionals of a sequent, mostly with as many scripts as are due."""
     steps, scripts = [], []
     while depth > 0:
         depth -= 1
-        places = [number for number in choices(sequent)]
+        places = conditionals(sequent)
         number = random.choice(places) if places and random.random() < 0.95 else random.choice([0, 1, -1, 2])
-        steps.append('(if %s%d)' % ('- ' if number < 0 and random.random() < 0.1 else '-' if number < 0 else '',
-                                    abs(number)))
-        premises = premises_of(sequent, number) or []
+        sign = '- ' if random.random() < 0.1 else '-'
+        steps.append('(if %s%d)' % (sign if number < 0 else '', abs(number)))
+        premises = rules.if_(sequent, number)[0] if number in places else []
+        premises = [premise for premise in premises if not premise.is_closed]
         if len(premises) == 1:
             sequent = premises[0]
             continue
-        scripts = [script(random, premise, depth) for premise in premises]
+        scripts = [script(random, rules, premise, depth) for premise in premises]
         break
     if random.random() < 0.05:
         steps.append('(axiom)')
     return '(' + ' '.join((steps or ['(axiom)']) + scripts) + ')'
 
 
-def choices(sequent):
-    antecedents, consequents = sequent
-    return ([-at - 1 for at, tree in enumerate(antecedents) if isinstance(tree, If)]
-            + [at + 1 for at, tree in enumerate(consequents) if isinstance(tree, If)])
+def conditionals(sequent):
+    return ([-at - 1 for at, tree in enumerate(sequent.antecedents) if tree.form == 'If']
+            + [at + 1 for at, tree in enumerate(sequent.consequents) if tree.form == 'If'])
 
 
 def boolean_theory(random, name):
@@ -141,19 +145,16 @@ def boolean_theory(random, name):
 
 
 def proofs_of(random, text, name):
-    from .reading import unit_of
     items, fault = unit_of(text)
     if fault:
         return []
-    try:
-        formulas = entries_of(items[0], [])
-    except Exception:
-        formulas = []
-    proofs = []
-    for _, formula_name, tree in formulas:
-        if random.random() < 0.8:
-            proofs.append('(proof %s.%s %s)\n' % (name, formula_name, script(random, ([], [tree]), 12)))
-    return proofs
+    checker = Checker({name: items[0]}, 2)
+    if isinstance(checker.result(name), Refused):
+        return []
+    rules = Rules(Typing(checker.development, name))
+    return ['(proof %s.%s %s)\n' % (name, entry.name,
+                                    script(random, rules, Sequent((), (), (entry.second,)), 12))
+            for entry in checker.result(name).entries if entry.kind == 'formula' and random.random() < 0.8]
 
 
 def booleans(random):

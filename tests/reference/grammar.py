@@ -9,6 +9,8 @@ of entries that a list has so far.
 from collections import namedtuple
 from functools import lru_cache
 
+from .tokens import is_word
+
 LIMIT = 200
 
 # A terminal with what it does to the nesting: 'frame' and 'end' open and close a frame, 'mark' sets
@@ -234,20 +236,29 @@ def unit():
     return [[], [rule('theory'), rule('unit')], [rule('proof'), rule('unit')]]
 
 
-# A script that is built so far: steps by axiom and if, and scripts after the last step.
-def script():
-    return [[T('('), rule('step'), rule('steps')]]
+def script(step_rule):
+    return [[T('('), rule(step_rule), rule('steps', step_rule)]]
 
 
-def steps():
-    return [[rule('step'), rule('steps')], [rule('scripts')]]
+def steps(step_rule):
+    return [[rule(step_rule), rule('steps', step_rule)], [rule('scripts', step_rule)]]
 
 
-def scripts():
-    return [[T(')')], [rule('script'), rule('scripts')]]
+def scripts(step_rule):
+    return [[T(')')], [rule('script', step_rule), rule('scripts', step_rule)]]
 
 
 def step():
+    return [[T('('), T('word'), rule('step_arguments')]]
+
+
+def step_arguments():
+    more = [[T('number')], [T('outside', '-'), T('number')], [T('quoted')], [T('word')]]
+    return [[T(')')]] + [first + [rule('step_arguments')] for first in more]
+
+
+# The steps of the first stages: by axiom and if alone.
+def boolean_step():
     return [
         [T('('), T('id', 'axiom'), T(')')],
         [T('('), T('IF', 'if'), T('number'), T(')')],
@@ -256,10 +267,10 @@ def step():
 
 
 RULES = {f.__name__: f for f in (
-    actual, after, applied, assumed, assuming, balanced, binding, body, brace, bracket, compared,
-    component, components, declaration, expr, formal, formals, importing, instance, instances, many,
-    name, operand, otherwise, part, proof, rest, script, scripts, step, steps, tail, term, theory,
-    type_, type_word, unit, variables)}
+    actual, after, applied, assumed, assuming, balanced, binding, body, boolean_step, brace, bracket,
+    compared, component, components, declaration, expr, formal, formals, importing, instance,
+    instances, many, name, operand, otherwise, part, proof, rest, script, scripts, step,
+    step_arguments, steps, tail, term, theory, type_, type_word, unit, variables)}
 
 
 @lru_cache(maxsize=None)
@@ -328,6 +339,8 @@ def takes(terminal, token, state):
         return token.sort in IDS
     if terminal.sort == 'any':
         return token.sort not in ('(', ')')
+    if terminal.sort == 'word':
+        return is_word(token)
     return token.sort == terminal.sort
 
 
@@ -379,9 +392,8 @@ def is_whole(states):
     return any(ready.todo is None for state in states for ready in nexts(state, False))
 
 
-def begin(start):
-    Todo.made.clear()
-    return {State(before([rule(start)], None), ((0, 0),), None)}
+def begin(start, *arguments):
+    return {State(before([rule(start, *arguments)], None), ((0, 0),), None)}
 
 
 def is_outside(tokens, at):
@@ -401,14 +413,20 @@ def code_of(tokens, at, without_bounds):
     return 'OutOfProfile' if is_outside(tokens, at) else 'Unexpected'
 
 
-def first_fault(start, tokens, fault, end):
-    """The first fault of tokens after which a lexical fault or the end comes, or None."""
-    bounded = unbounded = begin(start)
+def first_fault(states, tokens, fault, end, inside=None):
+    """The first fault of tokens after which a lexical fault or the end comes, or None.
+
+    `inside` gives the first fault inside of a token, or None.
+    """
+    bounded = unbounded = states
     for at, token in enumerate(tokens):
         bounded = after_token(bounded, token, True)
         unbounded = after_token(unbounded, token, False)
         if not bounded:
             return token.at, code_of(tokens, at, unbounded)
+        within = inside(token) if inside else None
+        if within:
+            return within
     if fault:
         return fault
     return None if is_whole(bounded) else (end, 'Unexpected')

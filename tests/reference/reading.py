@@ -3,7 +3,7 @@
 A tree is a tuple: its form, its parts, and at the end the place of its first token.
 """
 
-from .grammar import first_fault
+from .grammar import Todo, begin, first_fault
 from .tokens import MAX_TEXT, place, tokens_of
 
 
@@ -260,6 +260,25 @@ def unit_of(text):
     """The unit of a text, or its first fault: a pair of which one is None."""
     if len(text) > MAX_TEXT:
         return None, ((1, 1), 'TextTooLong')
+    Todo.made.clear()
     tokens, lexical = tokens_of(text)
-    fault = first_fault('unit', tokens, lexical, place(text, len(text)))
+    fault = first_fault(begin('unit'), tokens, lexical, place(text, len(text)))
     return (None, fault) if fault else (Reader(tokens).unit(), None)
+
+
+def quoted_tokens(text, token):
+    """The tokens in quotes, where a variable of a sequent is an identifier."""
+    tokens, lexical = tokens_of(text, token.start + 1, token.end - 1)
+    return [t._replace(sort='id') if t.sort == 'variable' else t for t in tokens], lexical
+
+
+def quoted_fault(text, token):
+    """The first fault of the expression in quotes, or None; None of any other token too."""
+    if token.sort != 'quoted':
+        return None
+    tokens, lexical = quoted_tokens(text, token)
+    return first_fault(begin('expr'), tokens, lexical, place(text, token.end - 1))
+
+
+def quoted_expression(text, token):
+    return Reader(quoted_tokens(text, token)[0]).expression()

@@ -1,114 +1,223 @@
-"""Which theories are accepted, and what their formulas stand for.
+"""Which theories are accepted, and their signatures."""
 
-A core tree is True, False, the name of a constant, or a conditional: a tuple of three core trees.
-"""
+import re
 
-MAX_DEPTH = 1000
-MAX_SIZE = 1000000
+from .declarations import Declarations, declared_formal, settle
+from .errors import Refused
+from .names import Scope
+from .signatures import Development, Entry, Signature
 
+MAX_ENTRIES = 1000000
 
-class Refused(Exception):
-    """A refusal, with its fault."""
-
-    def __init__(self, at, code):
-        super().__init__(at, code)
-        self.fault = (at, code)
+CONDITION_NAME = re.compile(r'.+_TCC[0-9]+$', re.S)
 
 
-def is_built(form):
-    """Whether an expression has built forms alone."""
-    if form[0] in ('TRUE', 'FALSE'):
-        return True
-    if form[0] == 'name':
-        return form[1] is None
-    if form[0] in ('parentheses', 'NOT', 'AND', 'OR', 'IMPLIES', 'IF'):
-        return all(is_built(part) for part in form[1:-1])
-    return False
+# The stage by which each form is built.
+
+def stage_of(form):
+    """The stage by which an expression or a type is built."""
+    kind, *parts, _ = form
+    if kind == 'name':
+        return 8 if parts[0] else 2
+    if kind == 'name type':
+        return 8 if parts[0] else 3
+    if kind in ('TRUE', 'FALSE'):
+        return 2
+    stage = {'predicate': 4, 'subtype': 4, 'tuple': 5, 'tuple type': 5, 'project': 5, 'LET': 5}.get(kind)
+    if kind in ('parentheses', 'NOT', 'AND', 'OR', 'IMPLIES', 'IF'):
+        stage = 2
+    if kind == 'apply':
+        stage = 5 if len(parts[1]) > 1 else 3
+    if kind == 'LAMBDA':
+        stage = 5 if len(parts[0]) > 1 else 3
+    if kind == 'function':
+        stage = 5 if len(parts[0]) > 1 or parts[0][0][0] else 3
+    return max([stage or 3] + [stage_of(part) for part in inner_forms(form)])
+
+
+def inner_forms(form):
+    """The expressions and types inside one."""
+    kind, *parts, _ = form
+    if kind in ('name', 'name type', 'TRUE', 'FALSE'):
+        return []
+    if kind == 'project':
+        return [parts[0]]
+    if kind == 'apply':
+        return [parts[0]] + parts[1]
+    if kind == 'tuple':
+        return parts[0]
+    if kind in ('FORALL', 'EXISTS', 'LAMBDA'):
+        return [type_ for _, type_, _ in parts[0] if type_] + [parts[1]]
+    if kind == 'LET':
+        return [inner for _, type_, value, _ in parts[0] for inner in (type_, value) if inner] + [parts[1]]
+    if kind in ('function', 'tuple type'):
+        return [type_ for _, type_, _ in parts[0]] + parts[1:]
+    if kind == 'subtype':
+        return parts[1:]
+    return parts
+
+
+def stage_of_declaration(declared):
+    kind = declared[0]
+    if kind == 'importing':
+        return 8
+    if kind == 'type':
+        return 3
+    if kind in ('type definition', 'variable'):
+        return max(3, stage_of(declared[2]))
+    if kind in ('axiom', 'lemma'):
+        return stage_of(declared[2])
+    _, _, parameters, type_, body = declared
+    if not parameters and body is None and is_boolean(type_):
+        return 2
+    forms = [type_] + [type_ for _, type_, _ in parameters if type_] + ([body] if body else [])
+    return max([5 if len(parameters) > 1 else 3] + [stage_of(form) for form in forms])
 
 
 def is_boolean(type_):
     return type_[0] == 'name type' and type_[1] is None and type_[2].text in ('bool', 'boolean')
 
 
-def is_built_declaration(declared):
-    if declared[0] == 'constant':
-        _, _, parameters, type_, body = declared
-        return not parameters and body is None and is_boolean(type_)
-    return declared[0] in ('axiom', 'lemma') and is_built(declared[2])
+def stage_of_theory(theory):
+    _, _, formals, assuming, declared = theory
+    if formals or assuming:
+        return 8
+    return max([2] + [stage_of_declaration(one) for one in declared])
 
 
-def measure(tree):
-    """The depth and the size of a core tree, kept with it where it is made."""
-    return tree.measure if isinstance(tree, If) else (1, 1)
+# Faults before the declarations are elaborated.
+
+def kind_of(declared):
+    if declared[0] in ('type', 'type definition'):
+        return 'type'
+    if declared[0] in ('constant', 'variable', 'constant formal'):
+        return 'constant'
+    return 'formula'
 
 
-class If(tuple):
-    """A conditional, equal to each conditional of equal parts."""
-
-    def __new__(cls, *parts):
-        made = super().__new__(cls, parts)
-        depths, sizes = zip(*(measure(part) for part in parts))
-        made.measure = (1 + max(depths), 1 + sum(sizes))
-        return made
-
-
-def conditional(at, condition, first, second):
-    """A conditional, refused TooLarge at a place where it passes a limit."""
-    made = If(condition, first, second)
-    depth, size = made.measure
-    if depth > MAX_DEPTH or size > MAX_SIZE:
-        raise Refused(at, 'TooLarge')
-    return made
-
-
-def core(form, constants):
-    """The core tree of an expression over the constants before it."""
-    sort, parts, at = form[0], form[1:-1], form[-1]
-    if sort in ('TRUE', 'FALSE'):
-        return sort == 'TRUE'
-    if sort == 'name':
-        if parts[1].text not in constants:
-            raise Refused(at, 'Unknown')
-        return parts[1].text
-    trees = [core(part, constants) for part in parts]
-    if sort == 'parentheses':
-        return trees[0]
-    if sort == 'NOT':
-        return conditional(at, trees[0], False, True)
-    if sort == 'AND':
-        return conditional(at, trees[0], trees[1], False)
-    if sort == 'OR':
-        return conditional(at, trees[0], True, trees[1])
-    if sort == 'IMPLIES':
-        return conditional(at, trees[0], trees[1], True)
-    return conditional(at, *trees)
-
-
-def repeated(declared):
-    """The first declared name that an earlier declaration of its kind has."""
+def repeated(declared, stage):
+    """The first declared name that an earlier one of its kind has, or that may not be declared."""
     seen = set()
     for one in declared:
-        key = (one[0] == 'constant', one[1].text)
-        if key in seen:
-            return one[1]
-        seen.add(key)
+        if one[0] == 'importing':
+            continue
+        kind, word = kind_of(one), one[1]
+        wrong = (kind == 'type' and word.text in ('bool', 'boolean')
+                 or kind == 'formula' and stage >= 4 and CONDITION_NAME.match(word.text))
+        if (kind, word.text) in seen or wrong:
+            return word
+        seen.add((kind, word.text))
     return None
 
 
-def entries_of(theory, earlier):
-    """The formulas of a theory that follows theories of these names: sort, name and core tree."""
-    _, word, formals, assuming, declared = theory
-    if formals or assuming or not all(is_built_declaration(one) for one in declared):
-        raise Refused(word.at, 'OutOfProfile')
-    if word.text in earlier:
-        raise Refused(word.at, 'Duplicate')
-    again = repeated(declared)
-    if again:
-        raise Refused(again.at, 'Duplicate')
-    constants, formulas = set(), []
-    for one in declared:
-        if one[0] == 'constant':
-            constants.add(one[1].text)
-        else:
-            formulas.append((one[0], one[1].text, core(one[2], constants)))
-    return formulas
+class Checker:
+    """Checks theories one after the other, each after those that it imports.
+
+    `theories` has the theory of each name that comes first. The result of each theory is a
+    signature with the VARs that gave types to each entry, or a fault.
+    """
+
+    def __init__(self, theories, stage):
+        self.theories, self.stage = theories, stage
+        self.development = Development()
+        self.results, self.variables = {}, {}
+
+    def imports_of(self, name):
+        _, _, _, assuming, declared = self.theories[name]
+        return [one[1][0] for one in assuming + declared if one[0] == 'importing']
+
+    def reaches(self, start, wanted):
+        """Whether a theory is this one or reaches it by importings."""
+        waiting, seen = [start], set()
+        while waiting:
+            name = waiting.pop()
+            if name == wanted:
+                return True
+            if name not in seen and name in self.theories:
+                seen.add(name)
+                waiting += [word.text for word in self.imports_of(name)]
+        return False
+
+    def result(self, name):
+        """The signature of a theory, or a refusal."""
+        if name not in self.results:
+            try:
+                self.results[name] = self.check(self.theories[name])
+            except Refused as refused:
+                self.development.signatures.pop(name, None)
+                self.results[name] = refused
+        return self.results[name]
+
+    def check(self, theory):
+        _, word, formals, assuming, declared = theory
+        if stage_of_theory(theory) > self.stage:
+            raise Refused(word.at, 'OutOfProfile')
+        again = repeated(formals + assuming + declared, self.stage)
+        if again:
+            raise Refused(again.at, 'Duplicate')
+        for imported in self.imports_of(word.text):
+            if imported.text not in self.theories:
+                raise Refused(imported.at, 'Unknown')
+            if self.reaches(imported.text, word.text):
+                raise Refused(imported.at, 'Cyclic')
+            if isinstance(self.result(imported.text), Refused):
+                raise Refused(imported.at, 'ImportsRefused')
+        return Elaboration(self, word.text).of(formals, assuming + declared)
+
+
+class Elaboration:
+    """Adds formals and declarations to the signature of a theory."""
+
+    def __init__(self, checker, name):
+        self.checker, self.name, self.numbers = checker, name, {}
+        self.development = checker.development
+        self.signature = self.development.signatures[name] = Signature(name)
+        self.variables = checker.variables[name] = {}
+
+    def of(self, formals, declared):
+        for number, formal in enumerate(formals):
+            self.formal(number, formal)
+        for one in declared:
+            self.declaration(one)
+        return self.signature
+
+    def room(self, more, at):
+        if len(self.signature.formals) + len(self.signature.entries) + more > MAX_ENTRIES:
+            raise Refused(at, 'TooLarge')
+
+    def conditions(self, goals, name, class_, at):
+        """Adds conditions, which are numbered for each name."""
+        if goals and self.checker.stage < 4:
+            raise Refused(at, 'OutOfProfile')
+        for goal in goals:
+            self.numbers[name] = self.numbers.get(name, 0) + 1
+            text = '%s_TCC%d' % (name, self.numbers[name])
+            self.signature.entries.append(Entry(text, 'formula', class_, goal))
+        for number in range(len(self.signature.entries) - len(goals), len(self.signature.entries)):
+            entry = self.signature.entries[number]
+            self.signature.entries[number] = entry._replace(owner=len(self.signature.entries))
+
+    def formal(self, number, formal):
+        place = len(self.signature.entries)
+        found = declared_formal(Scope(self.development, self.name, place, number), formal)
+        goals = settle(found, formal[1].at)
+        self.room(1 + len(goals), formal[1].at)
+        self.variables['formal', number] = found.variables
+        self.conditions(goals, formal[1].text, ('formal', number), formal[1].at)
+        self.signature.formals.append(found.entry)
+
+    def declaration(self, declared):
+        importing = declared[0] == 'importing'
+        word = declared[1][0] if importing else declared[1]
+        found = Declarations(Scope(self.development, self.name, len(self.signature.entries))).of(declared)
+        goals = settle(found, word.at)
+        self.room(len(goals) + (0 if importing else 1), word.at)
+        if importing:
+            self.conditions(goals, 'IMP_' + word.text, 'import condition', word.at)
+            place = len(self.signature.entries)
+            self.variables['import', len(self.signature.imports)] = found.variables
+            self.signature.imports.append(found.brought._replace(place=place))
+            return
+        self.conditions(goals, word.text, 'condition', word.at)
+        self.variables['own', len(self.signature.entries)] = found.variables
+        self.signature.entries.append(found.entry)

@@ -67,14 +67,15 @@ def sort_of(kind, text):
     return kind
 
 
-def tokens_of(text):
-    """The tokens of a text, and the fault after them: a place with a code, or None.
+def tokens_of(text, start=0, end=None):
+    """The tokens of a span of a text, and the fault after them: a place with a code, or None.
 
     A text is a string of which each character stands for one byte.
     """
-    tokens, offset = [], 0
-    while offset < len(text):
-        found = LEXEME.match(text, offset)
+    tokens, offset = [], start
+    end = len(text) if end is None else end
+    while offset < end:
+        found = LEXEME.match(text, offset, end)
         if not found:
             code = 'UnclosedQuote' if text[offset] == '"' else 'BadByte'
             return tokens, (place(text, offset), code)
@@ -83,3 +84,8 @@ def tokens_of(text):
             tokens.append(Token(sort, found.group(), offset, found.end(), place(text, offset)))
         offset = found.end()
     return tokens, None
+
+
+def is_word(token):
+    """Whether a token is a word, a keyword or not."""
+    return token.text[0].isalpha() and '!' not in token.text
