@@ -241,4 +241,19 @@ impl Store {
     {
         let _nodes = &self.nodes;
     }
+
+    /// Equal texts have equal names.
+    #[tactic(auto, unfolding(crate::specs::Stored::text_at))]
+    pub fn one_name_per_text(&self)
+        ensures { (m n : ℕ) → IsName self.now m → IsName self.now n → text_at self.now m ≡ text_at self.now n → m ≡ n }
+    {
+        self.names.one_number_per_text();
+    }
+
+    /// Equal references have equal numbers.
+    pub fn one_reference(&self)
+        ensures { (r q : ℕ) → IsRef self.now r → IsRef self.now q → ref_at self.now r ≡ ref_at self.now q → r ≡ q }
+    {
+        let _refs = &self.refs;
+    }
 }
