@@ -5,20 +5,12 @@ ghost use Rattle.std.specs.Prelude.{◌≡◌, ℕ, ◌<◌, ◌≤◌, [], leng
 use crate::fault::MakeFault;
 use crate::measure::Measure;
 use crate::names::Names;
-use crate::node::{Id, Name, Node, RefId, RefKind};
+use crate::node::{Id, Name, Node, RefId};
 use crate::nodes::Nodes;
+use crate::refs::Refs;
 use crate::shape::Shape;
-use smallvec::SmallVec;
 use std::alloc::{AllocError, Global};
 use std::marker::Model;
-
-/// A reference and its measure.
-#[derive(Drop)]
-pub(crate) struct RefEntry {
-    pub(crate) kind: RefKind,
-    pub(crate) actuals: SmallVec<Id, 4>,
-    pub(crate) measure: Measure,
-}
 
 /// Nodes, names and references by number. A number stands for one tree, text or reference for
 /// good.
@@ -26,7 +18,7 @@ pub(crate) struct RefEntry {
 pub struct Store {
     pub(crate) names: Names,
     pub(crate) nodes: Nodes,
-    pub(crate) refs: Vec<RefEntry>,
+    pub(crate) refs: Refs,
     pub(crate) alloc: Global,
 }
 
@@ -37,9 +29,9 @@ impl Model for Store {
 
     ghost use Rattle.pvs_terms.specs.StoreView.{stored, IsSound};
 
-    ghost view = { λ s. stored s.names s.nodes s.refs.items };
+    ghost view = { λ s. stored s.names s.nodes s.refs };
 
-    ghost invariant = { λ s. IsSound s.names s.nodes s.refs.items };
+    ghost invariant = { λ s. IsSound s.names s.nodes s.refs };
 }
 
 impl Store {
@@ -58,7 +50,7 @@ impl Store {
         Ok(Store {
             names: Names::new(alloc),
             nodes: Nodes::new(alloc),
-            refs: Vec::new(alloc),
+            refs: Refs::new(alloc),
             alloc,
         })
     }
@@ -163,8 +155,7 @@ impl Store {
         ensures value { result ≡ ref_measure (ref_at self.now r) }
         ensures small { IsSmall result }
     {
-        let entry = &self.refs[r.number() as usize];
-        entry.measure
+        self.refs.entry(r.number()).1
     }
 
     fn around(&self, a: Id, b: Id) -> Measure
