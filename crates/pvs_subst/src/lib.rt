@@ -6,6 +6,7 @@ mod fault;
 mod instances;
 mod laws;
 mod lifting;
+mod memo;
 mod putting;
 
 pub use context::{Assumed, Condition, Context};

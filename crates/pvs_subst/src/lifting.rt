@@ -1,11 +1,13 @@
 //! Lifting.
 
-ghost use Rattle.std.specs.Prelude.{◌≡◌, ℕ, ◌+◌, ◌<◌, ◌^◌, ◌≤◌, length, IfOk, IfSome, IfNone, Err};
+ghost use Rattle.std.specs.Prelude.{◌≡◌, ℕ, ◌+◌, ◌<◌, ◌^◌, ◌≤◌, length, IfOk, OnOk, IfSome, IfNone, Err};
 ghost use Rattle.pvs_terms.specs.Tree.{depth, IsWithinLimits};
 ghost use Rattle.pvs_terms.specs.Stored.{IsNode, tree_at, shape_tree, ShapeIn, Stands, StandsAs, Extends};
 ghost use Rattle.pvs_subst.specs.Replace.{lift, raised_index};
+ghost use Rattle.pvs_subst.specs.Memo.{lifts, Remembers};
 
 use crate::fault::SubstFault;
+use crate::memo::Memo;
 use pvs_base::MAX_INDEX;
 use pvs_terms::{Id, Shape, Store};
 
@@ -25,33 +27,53 @@ fn raise(n: u32, by: u32, from: u64) -> Option<u32>
 }
 
 /// Raises each free index that is at least `from`. A part without such an index is handed back
-/// as it is.
+/// as it is, and a part that was met before at this depth is not lifted again.
 #[cycle(lift)]
-fn lift_from(store: &mut Store, id: Id, by: u32, from: u64) -> Result<Id, SubstFault>
+fn lift_from(
+    store: &mut Store,
+    memo: &mut Memo,
+    id: Id,
+    by: u32,
+    from: u64,
+) -> Result<Id, SubstFault>
     requires node { IsNode store.old id }
     requires room { from + depth (tree_at store.old id) < 2 ^ 34 }
+    requires remembered { Remembers store.old (lifts by) memo.old }
     ensures ok { IfOk result (Stands store.new (lift (tree_at store.old id) by from)) }
     ensures large { result ≡ Err SubstFault.TooLarge → ¬ IsWithinLimits (lift (tree_at store.old id) by from) }
     ensures kept { Extends store.old store.new }
+    ensures remembered { OnOk result (Remembers store.new (lifts by) memo.new) }
 {
     let node = store.view(id);
     if store.free_below(id) <= from {
         return Ok(id);
     }
-    let lifted = lift_parts(store, node.shape(), by, from)?;
+    if let Some(made) = memo.get(id, from) {
+        return Ok(made);
+    }
+    let lifted = lift_parts(store, memo, node.shape(), by, from)?;
     let lifted_id = store.make(lifted.node())?;
+    memo.put(id, from, lifted_id)?;
     Ok(lifted_id)
 }
 
 /// The parts lifted.
 #[cycle(lift)]
 #[tactic(auto, using(pvs_terms::proofs::StoredLaws::extends_trans))]
-fn lift_parts(store: &mut Store, shape: Shape, by: u32, from: u64) -> Result<Shape, SubstFault>
+fn lift_parts(
+    store: &mut Store,
+    memo: &mut Memo,
+    shape: Shape,
+    by: u32,
+    from: u64,
+) -> Result<Shape, SubstFault>
     requires parts { ShapeIn store.old shape }
     requires room { from + depth (shape_tree store.old shape) < 2 ^ 34 }
+    requires remembered { Remembers store.old (lifts by) memo.old }
     ensures ok { IfOk result (StandsAs store.new (lift (shape_tree store.old shape) by from)) }
     ensures large { result ≡ Err SubstFault.TooLarge → ¬ IsWithinLimits (lift (shape_tree store.old shape) by from) }
     ensures kept { Extends store.old store.new }
+    ensures remembered { OnOk result (Remembers store.new (lifts by) memo.new) }
 {
     match shape {
         Shape::Leaf(plain) => Ok(Shape::Leaf(plain)),
@@ -61,23 +83,23 @@ fn lift_parts(store: &mut Store, shape: Shape, by: u32, from: u64) -> Result<Sha
             Some(n) => Ok(Shape::Index(n)),
         },
         Shape::Bind(binder, a, b) => {
-            let a = lift_from(store, a, by, from)?;
-            let b = lift_from(store, b, by, from + 1)?;
+            let a = lift_from(store, memo, a, by, from)?;
+            let b = lift_from(store, memo, b, by, from + 1)?;
             Ok(Shape::Bind(binder, a, b))
         }
         Shape::Join(joint, a, b) => {
-            let a = lift_from(store, a, by, from)?;
-            let b = lift_from(store, b, by, from)?;
+            let a = lift_from(store, memo, a, by, from)?;
+            let b = lift_from(store, memo, b, by, from)?;
             Ok(Shape::Join(joint, a, b))
         }
         Shape::Project(part, a) => {
-            let a = lift_from(store, a, by, from)?;
+            let a = lift_from(store, memo, a, by, from)?;
             Ok(Shape::Project(part, a))
         }
         Shape::Choose(a, b, c) => {
-            let a = lift_from(store, a, by, from)?;
-            let b = lift_from(store, b, by, from)?;
-            let c = lift_from(store, c, by, from)?;
+            let a = lift_from(store, memo, a, by, from)?;
+            let b = lift_from(store, memo, b, by, from)?;
+            let c = lift_from(store, memo, c, by, from)?;
             Ok(Shape::Choose(a, b, c))
         }
     }
@@ -95,5 +117,6 @@ pub fn lift(store: &mut Store, id: Id, by: u32, from: u32) -> Result<Id, SubstFa
     if by == 0 {
         return Ok(id);
     }
-    lift_from(store, id, by, u64::from(from))
+    let mut memo = Memo::new(store.allocator());
+    lift_from(store, &mut memo, id, by, u64::from(from))
 }

@@ -1,5 +1,5 @@
 -- Where equal trees and references have equal numbers, equal nodes have equal parts.
-use Rattle.std.proofs.Common.{◌≡◌, ℕ, zero, suc, ◌<◌, List, [], ◌∷◌, length, refl, ap, sym, ◌∙◌, arith, Some, slice_get}
+use Rattle.std.proofs.Common.{◌≡◌, ℕ, zero, suc, ◌<◌, List, [], ◌∷◌, length, refl, ap, ap₂, sym, ◌∙◌, arith, Some, slice_get}
 use Rattle.std.specs.Prelude.{slice_index_or}
 use Rattle.std.specs.Map.{keys_of}
 use Rattle.pvs_terms.specs.declared.shape.Plain.TheVariants.{BoolType, Yes, No}
@@ -12,7 +12,10 @@ use Rattle.pvs_terms.specs.declared.shape.Shape.TheVariants.{Leaf, Index, Name, 
 use Rattle.pvs_terms.specs.declared.node.Node.{Node}
 use Rattle.pvs_terms.specs.declared.node.Node.TheVariants as node
 use Rattle.pvs_terms.specs.Shapes.{shape_of}
-use Rattle.pvs_terms.specs.Stored.{Stored, tree_at, ref_at, shape_tree, IsNode, IsRef, ShapeIn}
+use Rattle.pvs_terms.specs.declared.node.RefKind.{RefKind}
+use Rattle.pvs_terms.specs.declared.node.RefKind.TheVariants as kind
+use Rattle.pvs_terms.specs.Texts.{AreDistinct}
+use Rattle.pvs_terms.specs.Stored.{Stored, tree_at, ref_at, text_at, trees_at, given_ref, shape_tree, IsNode, IsRef, ShapeIn, KindIn, MayHave, AllBelow}
 
 -- the node of a shape
 node_of : Shape → Node
@@ -89,6 +92,34 @@ shape_tree-injective s (Choose a b c) (Choose x y z) d f h k e =
     let second : b ≡ y = d b y h.1 k.1 b_y in
     let third : c ≡ z = d c z h.2 k.2 cz in cc
 shape_tree-injective s _ _ d f h k e = absurd (cc)
+
+-- a reference by its kind and its actuals, which are of the store
+pub record IsGiven (s : Stored) (k : RefKind) (acts : List ℕ) : Type 0 where
+  pub kind : KindIn s k
+  pub may_have : MayHave k acts
+  pub actuals : AllBelow (length s.nodes) acts
+
+trees_at-injective : (s : Stored) (xs ys : List ℕ) → NodesDistinct s → AllBelow (length s.nodes) xs → AllBelow (length s.nodes) ys → trees_at s xs ≡ trees_at s ys → xs ≡ ys
+trees_at-injective s [] [] d h k e = refl
+trees_at-injective s [] (y ∷ ys) d h k e = cc
+trees_at-injective s (x ∷ xs) [] d h k e = cc
+trees_at-injective s (x ∷ xs) (y ∷ ys) d h k e =
+    let first : tree_at s x ≡ tree_at s y = cc in
+    let rest : trees_at s xs ≡ trees_at s ys = cc in
+    ap₂ ◌∷◌ (d x y h.0 k.0 first) (trees_at-injective s xs ys d h.1 k.1 rest)
+
+-- where equal texts have equal names too, a reference has one kind and one list of actuals
+pub given_ref-injective : (s : Stored) (k l : RefKind) (xs ys : List ℕ) → NodesDistinct s → AreDistinct s.names → IsGiven s k xs → IsGiven s l ys → given_ref s k xs ≡ given_ref s l ys → (k ≡ l) × (xs ≡ ys)
+unfolding text_at
+given_ref-injective s (kind.Own m) (kind.Own n) xs ys d u g h e = (cc, g.may_have ∙ sym h.may_have)
+given_ref-injective s (kind.Formal m) (kind.Formal n) xs ys d u g h e = (cc, g.may_have ∙ sym h.may_have)
+given_ref-injective s (kind.Inst a m) (kind.Inst b n) xs ys d u g h e =
+    let texts : slice_index_or s.names a [] ≡ slice_index_or s.names b [] = cc in
+    let names : a ≡ b = u a b g.kind h.kind texts in
+    let numbers : m ≡ n = cc in
+    let trees : trees_at s xs ≡ trees_at s ys = cc in
+    (ap₂ kind.Inst names numbers, trees_at-injective s xs ys d g.actuals h.actuals trees)
+given_ref-injective s _ _ xs ys d u g h e = absurd (cc)
 
 -- the key of an entry, and an entry under another default
 pub key_at : {K V : Type 0} (es : List (K × V)) (i : ℕ) (d : K × V) → i < length es → slice_get (keys_of es) i ≡ Some (slice_index_or es i d).0

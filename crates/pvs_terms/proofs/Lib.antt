@@ -1,6 +1,7 @@
 pub mod Keyed
 pub mod TreeLaws
 pub mod NodeLaws
+pub mod RefKeyLaws
 pub mod TextLaws
 pub mod StoredLaws
 pub mod SortLaws

@@ -6,11 +6,11 @@ use Rattle.pvs_terms.specs.Tree.{Text, Ref, IsWithinLimits, Const, AreClosed, re
 use Rattle.pvs_terms.specs.declared.node.Node.{Node}
 use Rattle.pvs_terms.specs.declared.node.RefKind.{RefKind}
 use Rattle.pvs_terms.specs.declared.node.RefKind.TheVariants as kind
-use Rattle.pvs_terms.specs.declared.store.RefEntry.{RefEntry}
+use Rattle.pvs_terms.specs.Refs.{Given, RefEntry}
 use Rattle.pvs_terms.specs.declared.measure.Measure.{Measure}
 use Rattle.pvs_terms.specs.Stored.{Stored, Reference, no_reference, tree_at, ref_at, IsNode, IsRef, HasParts, PartsIn, node_tree, AllBelow, trees_at, theory_in, KindIn, MayHave, given_ref, Extends, Stands, StandsRef}
 use Rattle.pvs_terms.specs.StoreView.{stored, reference_of, IsRight, IsRightRef, IsSound, IsNew, NamesBelow, ActualsBelow}
-use Rattle.pvs_terms.specs.Texts.{KeepsTexts}
+use Rattle.pvs_terms.specs.Texts.{AreDistinct, KeepsTexts}
 use Rattle.pvs_terms.proofs.StoredLaws.{pushed, pushed_ref, actuals_at, ref_at-given, ref_from-given, extends-names, extends-push, extends-push_ref, ref_at-push_new, NamesBelow-mono, NameBelow-of, NamesBelow-push, tree_at-push_new, node_tree-extends, HasParts-mono, ActualsBelow-mono}
 use Rattle.std.proofs.lemmas.List.{map-append, get_or_append_left, get_or_push}
 use Rattle.std.proofs.lemmas.Bool.{cases_lt}
@@ -22,7 +22,7 @@ use Rattle.std.specs.Map.{keys_of}
 use Rattle.std.proofs.Common.{Some, slice_get}
 use Rattle.std.proofs.lemmas.Option.{same_Some}
 use Rattle.pvs_terms.specs.Measures.{no_trees}
-use Rattle.pvs_terms.proofs.DistinctLaws.{NodesDistinct, RefsDistinct, shape_of-injective, shape_tree-injective, key_at, key_within, same_default}
+use Rattle.pvs_terms.proofs.DistinctLaws.{NodesDistinct, RefsDistinct, IsGiven, given_ref-injective, shape_of-injective, shape_tree-injective, key_at, key_within, same_default}
 use Rattle.pvs_terms.proofs.SortLaws.{shape_sorted, given_sorted}
 
 pub entry_is_right : {ts : List Text} {es : List (Node × Measure)} {rs : List RefEntry} {s : Stored} (i : ℕ) (e : Node × Measure) → IsSound ts es rs → stored ts es rs ≡ s → IsNode s i → e ≡ slice_index_or es i e → IsRight s i e
@@ -55,7 +55,7 @@ right_ref-extends s t r e x h y =
     let same : ref_at s r ≡ ref_at t r = sym (x.references r h) in
     record {
       measure = y.measure ∙ ap ref_measure same;
-      kind = KindIn-extends s t e.kind x y.kind;
+      kind = KindIn-extends s t e.0.kind x y.kind;
       may_have = y.may_have;
       closed = subst (λ q. AreClosed (ref_actuals q)) same y.closed;
       fits = subst (λ q. IsWithinLimits (Const q)) same y.fits;
@@ -221,7 +221,7 @@ actuals_push : (n : ℕ) (rs : List Reference) (x : Reference) → ActualsBelow 
 actuals_push n [] x h k = (k, tt)
 actuals_push n (r ∷ rs) x h k = (h.0, actuals_push n rs x h.1 k)
 
-module _ (ts : List Text) (es : List (Node × Measure)) (rs : List RefEntry) (e : RefEntry) (sound : IsSound ts es rs) (new : IsNew (stored ts es rs) e.kind e.actuals.items e.measure) where
+module _ (ts : List Text) (es : List (Node × Measure)) (rs : List RefEntry) (e : RefEntry) (sound : IsSound ts es rs) (new : IsNew (stored ts es rs) e.0.kind e.0.actuals e.1) where
   stored-push_ref : stored ts es (rs ++ e ∷ []) ≡ pushed_ref (stored ts es rs) (reference_of ts e)
   stored-push_ref = ap (λ xs. record { names = ts; nodes = map (λ (y : Node × Measure). y.0) es; refs = xs }) (map-append (reference_of ts) rs (e ∷ []))
 
@@ -234,23 +234,23 @@ module _ (ts : List Text) (es : List (Node × Measure)) (rs : List RefEntry) (e 
   longer_refs : length (stored ts es rs).refs ≤ length (stored ts es (rs ++ e ∷ [])).refs
   longer_refs = omega (arith, length-map rs (reference_of ts), length-map (rs ++ e ∷ []) (reference_of ts), length-append rs (e ∷ []))
 
-  ref_new : ref_at (stored ts es (rs ++ e ∷ [])) (length rs) ≡ given_ref (stored ts es rs) e.kind e.actuals.items
+  ref_new : ref_at (stored ts es (rs ++ e ∷ [])) (length rs) ≡ given_ref (stored ts es rs) e.0.kind e.0.actuals
   ref_new =
       ap (λ s. ref_at s (length rs)) stored-push_ref
       ∙ ap (ref_at (pushed_ref (stored ts es rs) (reference_of ts e))) (sym length_refs)
       ∙ ref_at-push_new (stored ts es rs) (reference_of ts e) sound.names
-      ∙ ref_from-given (stored ts es rs) e.kind e.actuals.items
+      ∙ ref_from-given (stored ts es rs) e.0.kind e.0.actuals
 
   old_ref : (r : ℕ) → r < length rs → ref_at (stored ts es (rs ++ e ∷ [])) r ≡ ref_at (stored ts es rs) r
   old_ref r h = extends_ref.references r (omega (arith, h, length_refs))
 
-  fresh_ref : (r : ℕ) → r < length rs → ref_at (stored ts es rs) r ≡ given_ref (stored ts es rs) e.kind e.actuals.items → ⊥
+  fresh_ref : (r : ℕ) → r < length rs → ref_at (stored ts es rs) r ≡ given_ref (stored ts es rs) e.0.kind e.0.actuals → ⊥
   fresh_ref r h = new.fresh r (omega (arith, h, length_refs))
 
   distinct_ref : (r q : ℕ) → r < length (rs ++ e ∷ []) → q < length (rs ++ e ∷ []) → ref_at (stored ts es (rs ++ e ∷ [])) r ≡ ref_at (stored ts es (rs ++ e ∷ [])) q → r ≡ q
   distinct_ref r q a b k = go (cases_lt r (length rs)) (cases_lt q (length rs))
     where
-      at_last : (n : ℕ) → n < length (rs ++ e ∷ []) → length rs ≤ n → ref_at (stored ts es (rs ++ e ∷ [])) n ≡ given_ref (stored ts es rs) e.kind e.actuals.items
+      at_last : (n : ℕ) → n < length (rs ++ e ∷ []) → length rs ≤ n → ref_at (stored ts es (rs ++ e ∷ [])) n ≡ given_ref (stored ts es rs) e.0.kind e.0.actuals
       at_last n l g = let at : n ≡ length rs = omega (arith, l, g, length-append rs (e ∷ [])) in ap (ref_at (stored ts es (rs ++ e ∷ []))) at ∙ ref_new
 
       go : (r < length rs) ⊎ (length rs ≤ r) → (q < length rs) ⊎ (length rs ≤ q) → r ≡ q
@@ -262,7 +262,7 @@ module _ (ts : List Text) (es : List (Node × Measure)) (rs : List RefEntry) (e 
   right_ref_new : IsRightRef (stored ts es (rs ++ e ∷ [])) (length rs) e
   right_ref_new = record {
     measure = new.measure ∙ ap ref_measure (sym ref_new);
-    kind = KindIn-extends (stored ts es rs) (stored ts es (rs ++ e ∷ [])) e.kind extends_ref new.kind;
+    kind = KindIn-extends (stored ts es rs) (stored ts es (rs ++ e ∷ [])) e.0.kind extends_ref new.kind;
     may_have = new.may_have;
     closed = subst (λ q. AreClosed (ref_actuals q)) (sym ref_new) new.closed;
     fits = subst (λ q. IsWithinLimits (Const q)) (sym ref_new) new.fits;
@@ -278,7 +278,7 @@ module _ (ts : List Text) (es : List (Node × Measure)) (rs : List RefEntry) (e 
   ]
 
   sorted_ref_new : IsSortedRef (ref_at (stored ts es (rs ++ e ∷ [])) (length rs))
-  sorted_ref_new = subst IsSortedRef (sym ref_new) (given_sorted (stored ts es rs) e.kind e.actuals.items sound.sorted new.actuals)
+  sorted_ref_new = subst IsSortedRef (sym ref_new) (given_sorted (stored ts es rs) e.0.kind e.0.actuals sound.sorted new.actuals)
 
   sound_ref : IsSound ts es (rs ++ e ∷ [])
   sound_ref = record {
@@ -298,6 +298,7 @@ pub record RefSeen (s : Stored) (r : ℕ) (k : RefKind) (acts : List ℕ) (m : M
   pub actuals : AllBelow (length s.nodes) acts
   pub trees : trees_at s acts ≡ ref_actuals (ref_at s r)
   pub kind : KindIn s k
+  pub may_have : MayHave k acts
   pub closed : AreClosed (ref_actuals (ref_at s r))
   pub measure : m ≡ ref_measure (ref_at s r)
   pub fits : IsWithinLimits (Const (ref_at s r))
@@ -312,21 +313,57 @@ get_or-map_at ts [] k d l y = absurd (omega (arith, l))
 get_or-map_at ts (z ∷ xs) zero d l y = ap (reference_of ts) (sym y)
 get_or-map_at ts (z ∷ xs) (suc k) d l y = get_or-map_at ts xs k d (omega (arith, l)) y
 
-pub ref_seen : {ts : List Text} {es : List (Node × Measure)} {rs : List RefEntry} {s : Stored} (r : ℕ) (e : RefEntry) → IsSound ts es rs → stored ts es rs ≡ s → IsRef s r → e ≡ slice_index_or rs r e → RefSeen s r e.kind e.actuals.items e.measure
+pub ref_seen : {ts : List Text} {es : List (Node × Measure)} {rs : List RefEntry} {s : Stored} (r : ℕ) (e : RefEntry) → IsSound ts es rs → stored ts es rs ≡ s → IsRef s r → e ≡ slice_index_or rs r e → RefSeen s r e.0.kind e.0.actuals e.1
 ref_seen {ts} {es} {rs} {s} r e h v i x =
     let m : r < length rs = omega (arith, i, length-map rs (reference_of ts), ap (λ (t : Stored). length t.refs) v) in
     let at : slice_index_or (map (reference_of ts) rs) r no_reference ≡ reference_of ts e = get_or-map_at ts rs r e m x in
-    let is : ref_at (stored ts es rs) r ≡ given_ref (stored ts es rs) e.kind e.actuals.items = ref_at-given (stored ts es rs) r (reference_of ts e) at ∙ ref_from-given (stored ts es rs) e.kind e.actuals.items in
+    let is : ref_at (stored ts es rs) r ≡ given_ref (stored ts es rs) e.0.kind e.0.actuals = ref_at-given (stored ts es rs) r (reference_of ts e) at ∙ ref_from-given (stored ts es rs) e.0.kind e.0.actuals in
     let right = h.refs r e m x in
-    subst (λ t. RefSeen t r e.kind e.actuals.items e.measure) v (record {
+    subst (λ t. RefSeen t r e.0.kind e.0.actuals e.1) v (record {
       is = is;
       actuals = subst (λ (y : Reference). AllBelow (length (stored ts es rs).nodes) y.actuals) at (actuals_at (length (stored ts es rs).nodes) (map (reference_of ts) rs) r h.actuals);
-      trees = actuals_of (stored ts es rs) e.kind e.actuals.items right.may_have ∙ ap ref_actuals (sym is);
+      trees = actuals_of (stored ts es rs) e.0.kind e.0.actuals right.may_have ∙ ap ref_actuals (sym is);
       kind = right.kind;
+      may_have = right.may_have;
       closed = right.closed;
       measure = right.measure;
       fits = right.fits;
     })
+
+-- a reference that is found stands for what was asked
+pub found_ref_stands : {ts : List Text} {es : List (Node × Measure)} {rs : List RefEntry} {s : Stored} (r : ℕ) (g : Given) → IsSound ts es rs → stored ts es rs ≡ s → slice_get (keys_of rs) r ≡ Some g → StandsRef s (given_ref s g.kind g.actuals) r
+found_ref_stands {ts} {es} {rs} r g h v k =
+    let lt = key_within rs r g k in
+    let d = slice_index_or rs r (g, no_trees) in
+    let same : d.0 ≡ g = same_Some d.0 g (sym (key_at rs r (g, no_trees) lt) ∙ k) in
+    let within : IsRef (stored ts es rs) r = omega (arith, lt, length-map rs (reference_of ts)) in
+    let seen = ref_seen r d h refl within (same_default rs r (g, no_trees) d lt) in
+    subst (λ t. StandsRef t (given_ref t g.kind g.actuals) r) v (record {
+      ref = within;
+      is = seen.is ∙ ap (λ (x : Given). given_ref (stored ts es rs) x.kind x.actuals) same;
+      fits = subst (λ (x : Given). IsWithinLimits (Const (given_ref (stored ts es rs) x.kind x.actuals))) same (subst (λ q. IsWithinLimits (Const q)) seen.is seen.fits);
+    })
+
+-- no number stands for a reference that is not found
+absent_ref : (ts : List Text) (es : List (Node × Measure)) (rs : List RefEntry) (g : Given) → IsSound ts es rs → AreDistinct ts → IsGiven (stored ts es rs) g.kind g.actuals → ((i : ℕ) → slice_get (keys_of rs) i ≡ Some g → ⊥) → (r : ℕ) → IsRef (stored ts es rs) r → ref_at (stored ts es rs) r ≡ given_ref (stored ts es rs) g.kind g.actuals → ⊥
+absent_ref ts es rs g h names given f r within k =
+    let lt : r < length rs = omega (arith, within, length-map rs (reference_of ts)) in
+    let d = slice_index_or rs r (g, no_trees) in
+    let seen = ref_seen r d h refl within (same_default rs r (g, no_trees) d lt) in
+    let there : IsGiven (stored ts es rs) d.0.kind d.0.actuals = record { kind = seen.kind; may_have = seen.may_have; actuals = seen.actuals } in
+    let equal = given_ref-injective (stored ts es rs) d.0.kind g.kind d.0.actuals g.actuals h.distinct_nodes names there given (sym seen.is ∙ k) in
+    let kinds : d.0.kind ≡ g.kind = equal.0 in
+    let actuals : d.0.actuals ≡ g.actuals = equal.1 in
+    let same : d.0 ≡ g = ap₂ (λ x y. record { kind = x; actuals = y }) kinds actuals in
+    f r (key_at rs r (g, no_trees) lt ∙ ap Some same)
+
+pub absent_ref_stands : {ts : List Text} {es : List (Node × Measure)} {rs : List RefEntry} {s : Stored} (g : Given) → IsSound ts es rs → stored ts es rs ≡ s → AreDistinct ts → IsGiven s g.kind g.actuals → ((i : ℕ) → slice_get (keys_of rs) i ≡ Some g → ⊥) → (r : ℕ) → IsRef s r → ref_at s r ≡ given_ref s g.kind g.actuals → ⊥
+absent_ref_stands {ts} {es} {rs} g h v names given f =
+    subst (λ t. IsGiven t g.kind g.actuals → (r : ℕ) → IsRef t r → ref_at t r ≡ given_ref t g.kind g.actuals → ⊥) v (λ x. absent_ref ts es rs g h names x f) given
+
+-- a reference that may be added is not among those that stand
+pub new_ref : {ts : List Text} {es : List (Node × Measure)} {rs : List RefEntry} {s : Stored} {m : Measure} (g : Given) → IsSound ts es rs → stored ts es rs ≡ s → IsNew s g.kind g.actuals m → (i : ℕ) → slice_get (keys_of rs) i ≡ Some g → ⊥
+new_ref g h v new i k = let stands = found_ref_stands i g h v k in new.fresh i stands.ref stands.is
 
 -- what a push of a reference leaves
 pub record IsPushedRef (s t : Stored) (k : RefKind) (acts : List ℕ) (ts : List Text) (es : List (Node × Measure)) (rs : List RefEntry) (r : ℕ) : Type 0 where
@@ -334,11 +371,10 @@ pub record IsPushedRef (s t : Stored) (k : RefKind) (acts : List ℕ) (ts : List
   pub extends : Extends s t
   pub stands : StandsRef t (given_ref s k acts) r
 
-pub pushed_ref_is : {ts : List Text} {es : List (Node × Measure)} {rs xs : List RefEntry} {s : Stored} {r : ℕ} {acts : List ℕ} (e : RefEntry) → IsSound ts es rs → stored ts es rs ≡ s → xs ≡ rs ++ e ∷ [] → e.actuals.items ≡ acts → IsNew s e.kind acts e.measure → r ≡ length rs → IsPushedRef s (stored ts es xs) e.kind acts ts es xs r
-pushed_ref_is {ts} {es} {rs} {xs} {s} {r} {acts} e sound v xs_is acts_are new at =
-    subst (λ y. IsPushedRef s (stored ts es y) e.kind acts ts es y r) (sym xs_is)
-    (subst (λ a. IsNew s e.kind a e.measure → IsPushedRef s (stored ts es (rs ++ e ∷ [])) e.kind a ts es (rs ++ e ∷ []) r) acts_are
-    (subst (λ t. IsNew t e.kind e.actuals.items e.measure → IsPushedRef t (stored ts es (rs ++ e ∷ [])) e.kind e.actuals.items ts es (rs ++ e ∷ []) r) v
+pub pushed_ref_is : {ts : List Text} {es : List (Node × Measure)} {rs xs : List RefEntry} {s : Stored} {r : ℕ} (e : RefEntry) → IsSound ts es rs → stored ts es rs ≡ s → xs ≡ rs ++ e ∷ [] → IsNew s e.0.kind e.0.actuals e.1 → r ≡ length rs → IsPushedRef s (stored ts es xs) e.0.kind e.0.actuals ts es xs r
+pushed_ref_is {ts} {es} {rs} {xs} {s} {r} e sound v xs_is new at =
+    subst (λ y. IsPushedRef s (stored ts es y) e.0.kind e.0.actuals ts es y r) (sym xs_is)
+    (subst (λ t. IsNew t e.0.kind e.0.actuals e.1 → IsPushedRef t (stored ts es (rs ++ e ∷ [])) e.0.kind e.0.actuals ts es (rs ++ e ∷ []) r) v
     (λ n. record {
       sound = sound_ref ts es rs e sound n;
       extends = extends_ref ts es rs e sound n;
@@ -347,11 +383,11 @@ pushed_ref_is {ts} {es} {rs} {xs} {s} {r} {acts} e sound v xs_is acts_are new at
         is = ap (ref_at (stored ts es (rs ++ e ∷ []))) at ∙ ref_new ts es rs e sound n;
         fits = n.fits;
       };
-    }))
+    })
     new)
 
 -- the same with a name more
-references-names : (ts us : List Text) (rs : List RefEntry) (s : Stored) → s.names ≡ ts → KeepsTexts ts us → ((r : ℕ) (e : RefEntry) → r < length rs → e ≡ slice_index_or rs r e → KindIn s e.kind) → map (reference_of us) rs ≡ map (reference_of ts) rs
+references-names : (ts us : List Text) (rs : List RefEntry) (s : Stored) → s.names ≡ ts → KeepsTexts ts us → ((r : ℕ) (e : RefEntry) → r < length rs → e ≡ slice_index_or rs r e → KindIn s e.0.kind) → map (reference_of us) rs ≡ map (reference_of ts) rs
 references-names ts us [] s n k h = refl
 references-names ts us (r ∷ rs) s n k h = ap₂ ◌∷◌ (same r (h 0 r (omega arith) refl)) (references-names ts us rs s n k (λ q e l x. h (suc q) e (omega (arith, l)) x))
   where
@@ -360,8 +396,8 @@ references-names ts us (r ∷ rs) s n k h = ap₂ ◌∷◌ (same r (h 0 r (omeg
     theory (kind.Formal m) h = refl
     theory (kind.Inst a m) h = k.texts a (subst (λ xs. a < length xs) n h)
 
-    same : (e : RefEntry) → KindIn s e.kind → reference_of us e ≡ reference_of ts e
-    same e h = ap (λ t. record { kind = e.kind; theory = t; actuals = e.actuals.items }) (theory e.kind h)
+    same : (e : RefEntry) → KindIn s e.0.kind → reference_of us e ≡ reference_of ts e
+    same e h = ap (λ t. record { kind = e.0.kind; theory = t; actuals = e.0.actuals }) (theory e.0.kind h)
 
 -- what a name more leaves
 pub record IsNamed (s t : Stored) (ts : List Text) (es : List (Node × Measure)) (rs : List RefEntry) : Type 0 where

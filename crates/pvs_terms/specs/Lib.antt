@@ -4,4 +4,5 @@ pub mod Shapes
 pub mod Stored
 pub mod Measures
 pub mod Texts
+pub mod Refs
 pub mod StoreView

@@ -2,7 +2,7 @@
 use Rattle.std.specs.Prelude.{◌≡◌, ℕ, ◌<◌, List, [], ◌∷◌, map, length, slice_index_or}
 use Rattle.pvs_terms.specs.Tree.{Text, IsWithinLimits, Const, AreClosed, ref_actuals}
 use Rattle.std.specs.Map.{keys_of}
-use Rattle.pvs_terms.specs.declared.store.RefEntry.{RefEntry}
+use Rattle.pvs_terms.specs.Refs.{RefEntry}
 use Rattle.pvs_terms.specs.Stored.{Stored, Reference, theory_in, tree_at, ref_at, HasParts, KindIn, MayHave, IsNode, IsRef, node_tree, given_ref, AllBelow}
 use Rattle.pvs_terms.specs.declared.measure.Measure.{Measure}
 use Rattle.pvs_terms.specs.declared.node.RefKind.{RefKind}
@@ -14,7 +14,7 @@ use Rattle.pvs_terms.specs.Measures.{measure_of, ref_measure}
 use Rattle.pvs_terms.specs.Sorts.{IsSorted, IsSortedRef}
 
 abbrev pub reference_of : List Text → RefEntry → Reference
-reference_of ts r = record { kind = r.kind; theory = theory_in ts r.kind; actuals = r.actuals.items }
+reference_of ts r = record { kind = r.0.kind; theory = theory_in ts r.0.kind; actuals = r.0.actuals }
 
 abbrev pub stored : List Text → List (Node × Measure) → List RefEntry → Stored
 stored ts es rs = record { names = ts; nodes = keys_of es; refs = map (reference_of ts) rs }
@@ -47,9 +47,9 @@ NamesBelow r (n ∷ ns) = NameBelow r (shape_of n) × NamesBelow r ns
 
 -- an entry is right about the reference that it stands for
 pub record IsRightRef (s : Stored) (r : ℕ) (e : RefEntry) : Type 0 where
-  pub measure : e.measure ≡ ref_measure (ref_at s r)
-  pub kind : KindIn s e.kind
-  pub may_have : MayHave e.kind e.actuals.items
+  pub measure : e.1 ≡ ref_measure (ref_at s r)
+  pub kind : KindIn s e.0.kind
+  pub may_have : MayHave e.0.kind e.0.actuals
   pub closed : AreClosed (ref_actuals (ref_at s r))
   pub fits : IsWithinLimits (Const (ref_at s r))
 

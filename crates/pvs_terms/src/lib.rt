@@ -8,6 +8,7 @@ mod names;
 mod node;
 mod nodes;
 mod reference;
+mod refs;
 mod shape;
 mod store;
 

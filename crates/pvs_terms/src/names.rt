@@ -24,7 +24,7 @@ impl Model for Names {
 }
 
 impl Names {
-    ghost use Rattle.pvs_terms.specs.Texts.{KeepsTexts, IsOnly};
+    ghost use Rattle.pvs_terms.specs.Texts.{AreDistinct, KeepsTexts, IsOnly};
 
     pub(crate) fn new(alloc: Global) -> Names
         ensures { result ≡ [] }
@@ -64,5 +64,12 @@ impl Names {
     {
         let _texts = &self.texts;
         a == b
+    }
+
+    /// Each text stands there once.
+    pub(crate) fn one_number_per_text(&self)
+        ensures { AreDistinct self.now }
+    {
+        let _texts = &self.texts;
     }
 }

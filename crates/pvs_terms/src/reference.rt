@@ -5,7 +5,8 @@ ghost use Rattle.std.specs.Prelude.{◌≡◌, ℕ, ◌<◌, ◌≤◌, length, 
 use crate::fault::MakeFault;
 use crate::measure::Measure;
 use crate::node::{Id, RefId, RefKind};
-use crate::store::{RefEntry, Store};
+use crate::refs::RefKey;
+use crate::store::Store;
 use smallvec::SmallVec;
 
 impl Store {
@@ -26,8 +27,7 @@ impl Store {
         // A node on the reference is within the limits.
         ensures fits { IsWithinLimits (Const (ref_at self.now r)) }
     {
-        let entry = &self.refs[r.number() as usize];
-        entry.kind
+        self.refs.entry(r.number()).0.kind
     }
 
     /// The actuals of the reference, in order. Only an instance has some.
@@ -42,25 +42,23 @@ impl Store {
         ensures sorted { AreSorted (ref_actuals (ref_at self.now r)) }
         ensures fits { IsWithinLimits (Const (ref_at self.now r)) }
     {
-        let entry = &self.refs[r.number() as usize];
-        entry.actuals.as_slice()
+        self.refs.entry(r.number()).0.actuals.as_slice()
     }
 
-    /// The number of the reference of this kind with these actuals, where there is one.
-    fn find(&self, kind: &RefKind, actuals: &[Id]) -> Option<RefId>
-        requires named { KindIn self.now kind.now }
-        requires actuals { AllBelow (length self.now.nodes) actuals.now }
-        ensures some { IfSome result (StandsRef self.now (given_ref self.now kind.now actuals.now)) }
-        ensures only { IfSome result (λ r. (q : ℕ) → IsRef self.now q → ref_at self.now q ≡ given_ref self.now kind.now actuals.now → q ≡ r) }
-        ensures none { IfNone result ((r : ℕ) → IsRef self.now r → ref_at self.now r ≡ given_ref self.now kind.now actuals.now → ⊥) }
+    /// The number of a reference, where there is one.
+    fn find(&self, key: &RefKey) -> Option<RefId>
+        requires named { KindIn self.now key.now.kind }
+        requires may_have { MayHave key.now.kind key.now.actuals.items }
+        requires actuals { AllBelow (length self.now.nodes) key.now.actuals.items }
+        ensures some { IfSome result (StandsRef self.now (given_ref self.now key.now.kind key.now.actuals.items)) }
+        ensures only { IfSome result (λ r. (q : ℕ) → IsRef self.now q → ref_at self.now q ≡ given_ref self.now key.now.kind key.now.actuals.items → q ≡ r) }
+        ensures none { IfNone result ((r : ℕ) → IsRef self.now r → ref_at self.now r ≡ given_ref self.now key.now.kind key.now.actuals.items → ⊥) }
     {
-        for i in 0..self.refs.len() {
-            let r = RefId::new(i as u64);
-            if self.is_given(r, kind, actuals) {
-                return Some(r);
-            }
+        self.names.one_number_per_text();
+        match self.refs.find(key) {
+            Some(at) => Some(RefId::new(at)),
+            None => None,
         }
-        None
     }
 
     /// The measure of the actuals, while a node on them is within the limits.
@@ -112,35 +110,29 @@ impl Store {
         ensures kept { Extends self.old self.new }
         ensures err { OnErr result (self.new ≡ self.old) }
     {
-        if let Some(r) = self.find(&kind, actuals) {
+        let copied = SmallVec::from_slice(self.alloc, actuals)?;
+        let key = RefKey {
+            kind,
+            actuals: copied,
+        };
+        if let Some(r) = self.find(&key) {
             return Ok(r);
         }
         match self.measure_given(&kind, actuals) {
             None => Err(MakeFault::TooLarge),
-            Some(measure) => self.push_reference(kind, actuals, measure),
+            Some(measure) => self.push_reference(key, measure),
         }
     }
 
-    fn push_reference(
-        &mut self,
-        kind: RefKind,
-        actuals: &[Id],
-        measure: Measure,
-    ) -> Result<RefId, MakeFault>
-        requires { IsNew self.old kind actuals.now measure }
-        ensures ok { IfOk result (StandsRef self.new (given_ref self.old kind actuals.now)) }
-        ensures only { IfOk result (λ r. (q : ℕ) → IsRef self.new q → ref_at self.new q ≡ given_ref self.old kind actuals.now → q ≡ r) }
+    fn push_reference(&mut self, key: RefKey, measure: Measure) -> Result<RefId, MakeFault>
+        requires { IsNew self.old key.kind key.actuals.items measure }
+        ensures ok { IfOk result (StandsRef self.new (given_ref self.old key.kind key.actuals.items)) }
+        ensures only { IfOk result (λ r. (q : ℕ) → IsRef self.new q → ref_at self.new q ≡ given_ref self.old key.kind key.actuals.items → q ≡ r) }
         ensures kept { Extends self.old self.new }
         ensures large { result ≢ Err MakeFault.TooLarge }
         ensures err { OnErr result (self.new ≡ self.old) }
     {
-        let copied = SmallVec::from_slice(self.alloc, actuals)?;
-        let r = RefId::new(self.refs.len() as u64);
-        self.refs.push(RefEntry {
-            kind,
-            actuals: copied,
-            measure,
-        })?;
-        Ok(r)
+        let at = self.refs.push(key, measure)?;
+        Ok(RefId::new(at))
     }
 }

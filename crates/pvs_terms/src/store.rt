@@ -5,20 +5,12 @@ ghost use Rattle.std.specs.Prelude.{◌≡◌, ℕ, ◌<◌, ◌≤◌, [], leng
 use crate::fault::MakeFault;
 use crate::measure::Measure;
 use crate::names::Names;
-use crate::node::{Id, Name, Node, RefId, RefKind};
+use crate::node::{Id, Name, Node, RefId};
 use crate::nodes::Nodes;
+use crate::refs::Refs;
 use crate::shape::Shape;
-use smallvec::SmallVec;
 use std::alloc::{AllocError, Global};
 use std::marker::Model;
-
-/// A reference and its measure.
-#[derive(Drop)]
-pub(crate) struct RefEntry {
-    pub(crate) kind: RefKind,
-    pub(crate) actuals: SmallVec<Id, 4>,
-    pub(crate) measure: Measure,
-}
 
 /// Nodes, names and references by number. A number stands for one tree, text or reference for
 /// good.
@@ -26,7 +18,7 @@ pub(crate) struct RefEntry {
 pub struct Store {
     pub(crate) names: Names,
     pub(crate) nodes: Nodes,
-    pub(crate) refs: Vec<RefEntry>,
+    pub(crate) refs: Refs,
     pub(crate) alloc: Global,
 }
 
@@ -37,9 +29,9 @@ impl Model for Store {
 
     ghost use Rattle.pvs_terms.specs.StoreView.{stored, IsSound};
 
-    ghost view = { λ s. stored s.names s.nodes s.refs.items };
+    ghost view = { λ s. stored s.names s.nodes s.refs };
 
-    ghost invariant = { λ s. IsSound s.names s.nodes s.refs.items };
+    ghost invariant = { λ s. IsSound s.names s.nodes s.refs };
 }
 
 impl Store {
@@ -58,7 +50,7 @@ impl Store {
         Ok(Store {
             names: Names::new(alloc),
             nodes: Nodes::new(alloc),
-            refs: Vec::new(alloc),
+            refs: Refs::new(alloc),
             alloc,
         })
     }
@@ -163,8 +155,7 @@ impl Store {
         ensures value { result ≡ ref_measure (ref_at self.now r) }
         ensures small { IsSmall result }
     {
-        let entry = &self.refs[r.number() as usize];
-        entry.measure
+        self.refs.entry(r.number()).1
     }
 
     fn around(&self, a: Id, b: Id) -> Measure
@@ -240,5 +231,20 @@ impl Store {
         ensures { (i j : ℕ) → IsNode self.now i → IsNode self.now j → tree_at self.now i ≡ tree_at self.now j → i ≡ j }
     {
         let _nodes = &self.nodes;
+    }
+
+    /// Equal texts have equal names.
+    #[tactic(auto, unfolding(crate::specs::Stored::text_at))]
+    pub fn one_name_per_text(&self)
+        ensures { (m n : ℕ) → IsName self.now m → IsName self.now n → text_at self.now m ≡ text_at self.now n → m ≡ n }
+    {
+        self.names.one_number_per_text();
+    }
+
+    /// Equal references have equal numbers.
+    pub fn one_reference(&self)
+        ensures { (r q : ℕ) → IsRef self.now r → IsRef self.now q → ref_at self.now r ≡ ref_at self.now q → r ≡ q }
+    {
+        let _refs = &self.refs;
     }
 }

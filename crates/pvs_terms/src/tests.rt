@@ -19,6 +19,7 @@ fn equal_texts_have_equal_names(rt: HostRuntime) -> Result<(), Fail> {
     assert!(rt; !store.same_name(again, bag));
     assert_eq!(rt; store.text(bag), "bag");
     let _alloc = store.allocator();
+    store.one_name_per_text();
     Ok(())
 }
 
@@ -35,6 +36,7 @@ fn equal_references_have_equal_numbers(rt: HostRuntime) -> Result<(), Fail> {
     assert!(rt; store.same_reference(entry, again));
     let own = store.reference(RefKind::Own(3), &[])?;
     assert!(rt; !store.same_reference(again, own));
+    store.one_reference();
     Ok(())
 }
 
@@ -47,6 +49,7 @@ fn numbers_stand_for_what_was_made(rt: HostRuntime) -> Result<(), Fail> {
     let variable = store.make(Node::Var(1))?;
     assert!(rt; store.same(variable, variable));
     assert!(rt; !store.same(constant, variable));
+    store.one_node_per_tree();
     let applied = store.make(Node::App(constant, variable))?;
     assert_eq!(rt; store.free_below(applied), 2);
     let boolean = store.make(Node::TBool)?;

@@ -10,6 +10,7 @@ use Rattle.pvs_terms.proofs.SortLaws.{has_sorts}
 use Rattle.pvs_subst.proofs.SortLaws.{HasSorts-instantiate_shape}
 use Rattle.pvs_subst.proofs.Kept.{stands_unchanged, makeable}
 use Rattle.pvs_terms.specs.Sorts.{HasSorts}
+use Rattle.pvs_subst.proofs.MemoLaws.{remembers_made, instances_remembered}
 use Rattle.pvs_subst.specs.Compound.{IsNoName}
 use Rattle.pvs_subst.proofs.instances.+instantiate.Goals as goal
 
@@ -18,13 +19,59 @@ instantiate_tree-returns-then-not-is_local-clause-ok t c =
     stands_unchanged c.requires.node c.view-node.ensures.fits
     (instantiate-foreign (tree_at c.args.store.now c.args.id) (text_at c.args.store.now c.args.theory) (trees_at c.args.store.now c.args.actuals.now) (search rules))
 
-pub instantiate_tree-returns-in_ok-made-in_default : goal.instantiate_tree-returns-in_ok-made-in_default
-instantiate_tree-returns-in_ok-made-in_default t c = record { ok = search rules; large = λ e. cc; kept = extends_trans c.in_ok-parts-in_default.ensures.kept c.in_ok-made-in_default.ensures.kept }
+pub instantiate_tree-returns-in-Some-clause-ok : goal.instantiate_tree-returns-in-Some-clause-ok
+instantiate_tree-returns-in-Some-clause-ok t c = (c.requires.remembered.made (record { id = c.args.id; depth = 0 }) c.in-Some.made (sym c.get.ensures ∙ c.in-Some.is)).stands
+
+pub instantiate_tree-instantiate_whole-requires : goal.instantiate_tree-instantiate_whole-requires
+instantiate_tree-instantiate_whole-requires t c =
+    let s = c.args.store.now in
+    let tree = c.view-node.ensures.tree ∙ ap (shape_tree s) (sym c.shape.ensures) in
+    let sorts = subst HasSorts tree (has_sorts (tree_at s c.args.id) c.view-node.ensures.sorted) in
+    let formals = subst (HasActuals (trees_at s c.args.actuals.now)) tree c.requires.formals in
+    (search rules, (search rules, (c.requires.instance, (formals, (sorts, c.requires.remembered)))))
+
+pub instantiate_tree-returns-clause-remembered : goal.instantiate_tree-returns-clause-remembered
+instantiate_tree-returns-clause-remembered t c =
+    let s = c.args.store.now in
+    let u = c.instantiate_whole.new.store in
+    let kept = c.in_ok-made.ensures.kept in
+    let given = c.requires.instance in
+    let tree = c.view-node.ensures.tree ∙ ap (shape_tree s) (sym c.shape.ensures) in
+    let stands : Stands u (inst_at u c.args.theory c.args.actuals.now (tree_at s c.args.id)) c.in_ok-made.made =
+    rw (tree, kept.texts c.args.theory given.theory, trees_at-extends s u c.args.actuals.now kept given.actuals) c.in_ok-made.ensures.ok in
+    remembers_made (record { id = c.args.id; depth = 0 }) c.in_ok-made.made kept c.requires.node c.in_ok-made.ensures.remembered stands c.in_ok-put.ensures
+
+pub instantiate_whole-returns-in_ok-made-in_default : goal.instantiate_whole-returns-in_ok-made-in_default
+instantiate_whole-returns-in_ok-made-in_default t c = record {
+  ok = search rules;
+  large = λ e. cc;
+  kept = extends_trans c.in_ok-parts-in_default.ensures.kept c.in_ok-made-in_default.ensures.kept;
+  remembered = instances_remembered c.in_ok-made-in_default.ensures.kept (instance_after c.in_ok-parts-in_default.ensures.kept c.requires.instance) c.in_ok-parts-in_default.ensures.remembered;
+}
+
+pub instantiate_whole-make-requires : goal.instantiate_whole-make-requires
+instantiate_whole-make-requires t c =
+    let s = c.args.store.now in
+    let x = c.args.shape in
+    let unnamed : IsNoName x = search rules in
+    let made = makeable c.node.result c.in_ok-parts-in_default.ensures.ok c.node.ensures (HasSorts-instantiate_shape s x (text_at s c.args.theory) (trees_at s c.args.actuals.now) unnamed c.requires.formals c.requires.sorted) in
+    record { parts = made.parts; sorted = made.sorted }
+
+pub instantiate_name-returns-in_ok-made-in-Own-clause-remembered : goal.instantiate_name-returns-in_ok-made-in-Own-clause-remembered
+instantiate_name-returns-in_ok-made-in-Own-clause-remembered t c =
+    instances_remembered (extends_trans c.in_ok-entry-in-Own.ensures.kept c.in_ok-made-in-Own.ensures.kept) c.requires.instance c.requires.remembered
+
+pub instantiate_name-returns-in_ok-made-in-Inst-clause-remembered : goal.instantiate_name-returns-in_ok-made-in-Inst-clause-remembered
+instantiate_name-returns-in_ok-made-in-Inst-clause-remembered t c =
+    instances_remembered (extends_trans c.in_ok-entry-in-Inst.ensures.kept c.in_ok-made-in-Inst.ensures.kept) (instance_after c.in_ok-replaced-in-Inst.ensures.kept c.requires.instance) c.in_ok-replaced-in-Inst.ensures.remembered
+
+pub instantiate_name-returns-in_err-made-in-Inst-clause-kept : goal.instantiate_name-returns-in_err-made-in-Inst-clause-kept
+instantiate_name-returns-in_err-made-in-Inst-clause-kept t c = extends_trans c.in_ok-replaced-in-Inst.ensures.kept (extends_trans c.in_ok-entry-in-Inst.ensures.kept c.in_err-made-in-Inst.ensures.kept)
 
 pub instantiate_both-instantiate_tree-requires-2 : goal.instantiate_both-instantiate_tree-requires-2
 instantiate_both-instantiate_tree-requires-2 t c =
     let kept = c.in_ok-first.ensures.kept in
-    (search rules, (kept.nodes c.args.b c.requires.second, (instance_after kept c.requires.instance, formals_after c.args.actuals.now c.args.b kept c.requires.instance.actuals c.requires.second c.requires.more_formals)))
+    (search rules, (kept.nodes c.args.b c.requires.second, (instance_after kept c.requires.instance, (formals_after c.args.actuals.now c.args.b kept c.requires.instance.actuals c.requires.second c.requires.more_formals, c.in_ok-first.ensures.remembered))))
 
 pub instantiate_both-returns-clause-second : goal.instantiate_both-returns-clause-second
 instantiate_both-returns-clause-second t c =
@@ -48,7 +95,7 @@ instantiate_parts-instantiate_both-requires-in-Choose t c =
           kept.nodes c.in-Choose.c parts.2,
           (
             instance_after kept c.requires.instance,
-            (formals_after c.args.actuals.now c.in-Choose.b kept c.requires.instance.actuals parts.1 formals.1, formals_after c.args.actuals.now c.in-Choose.c kept c.requires.instance.actuals parts.2 formals.2),
+            (formals_after c.args.actuals.now c.in-Choose.b kept c.requires.instance.actuals parts.1 formals.1, (formals_after c.args.actuals.now c.in-Choose.c kept c.requires.instance.actuals parts.2 formals.2, c.in_ok-a-in-Choose.ensures.remembered)),
           ),
         ),
       ),
@@ -82,7 +129,7 @@ instantiate_list-instantiate_list-requires t c =
         nodes_extend c.args.store.now c.instantiate_tree.new.store c.in-Some.rest.now kept nodes.1,
         (
           instance_after kept c.requires.instance,
-          all_formals_after c.args.actuals.now c.in-Some.rest.now kept c.requires.instance.actuals nodes.1 formals.1,
+          (all_formals_after c.args.actuals.now c.in-Some.rest.now kept c.requires.instance.actuals nodes.1 formals.1, c.in_ok-made-in-Some.ensures.remembered),
         ),
       ),
     )
@@ -123,21 +170,10 @@ instantiate_name-reference-requires-in-Inst-clause-closed t c =
     rw c.as_slice-in-Inst.ensures.value (subst AreClosed (sym c.in_ok-replaced-in-Inst.ensures.ok)
     (closed-instantiate_all (trees_at s c.as_slice.result.now) (text_at s c.args.theory) (trees_at s c.args.actuals.now) c.requires.instance.closed (subst AreClosed (sym inner) c.actuals.ensures.closed)))
 
-pub instantiate_name-returns-in_ok-entry-in-Inst-clause-kept : goal.instantiate_name-returns-in_ok-entry-in-Inst-clause-kept
-instantiate_name-returns-in_ok-entry-in-Inst-clause-kept t c = extends_trans c.in_ok-replaced-in-Inst.ensures.kept (extends_trans c.in_ok-entry-in-Inst.ensures.kept c.named-in-Inst.ensures.kept)
+pub instantiate_name-returns-in_ok-made-in-Inst-clause-kept : goal.instantiate_name-returns-in_ok-made-in-Inst-clause-kept
+instantiate_name-returns-in_ok-made-in-Inst-clause-kept t c = extends_trans c.in_ok-replaced-in-Inst.ensures.kept (extends_trans c.in_ok-entry-in-Inst.ensures.kept c.in_ok-made-in-Inst.ensures.kept)
 
 pub instantiate_name-bounds-actuals-n : goal.instantiate_name-bounds-actuals-n
 instantiate_name-bounds-actuals-n t c =
     actual_within c.args.store.now c.args.actuals.now c.in-Formal.n c.args.sort
     (subst (λ q. HasActuals (trees_at c.args.store.now c.args.actuals.now) (Name c.args.sort q)) c.in-Formal.ensures.ref_is c.requires.formals)
-
-pub instantiate_tree-make-requires : goal.instantiate_tree-make-requires
-instantiate_tree-make-requires t c =
-    let s = c.args.store.now in
-    let x = c.shape.result in
-    let tree = c.view-node.ensures.tree ∙ ap (shape_tree s) (sym c.shape.ensures) in
-    let sorts = subst HasSorts tree (has_sorts (tree_at s c.args.id) c.view-node.ensures.sorted) in
-    let formals = subst (HasActuals (trees_at s c.args.actuals.now)) tree c.requires.formals in
-    let unnamed : IsNoName x = search rules in
-    let made = makeable c.node.result c.in_ok-parts-in_default.ensures.ok c.node.ensures (HasSorts-instantiate_shape s x (text_at s c.args.theory) (trees_at s c.args.actuals.now) unnamed formals sorts) in
-    record { parts = made.parts; sorted = made.sorted }

@@ -15,7 +15,7 @@ returns-in-Some-clause-ok c = found c
 pub returns-in-Some-clause-only : goal.returns-in-Some-clause-only
 returns-in-Some-clause-only c j h e = nodes_differ j c.new.result c.self.invariant c.self.view_is h (found c).node (e ∙ sym (found c).tree)
 
-made : (c : After-new-2) → IsPushed c.args.self.now (stored c.self.inside.names c.push.new.self c.self.inside.refs.items) c.args.node c.self.inside.names c.push.new.self c.self.inside.refs.items c.new-2.result
+made : (c : After-new-2) → IsPushed c.args.self.now (stored c.self.inside.names c.push.new.self c.self.inside.refs) c.args.node c.self.inside.names c.push.new.self c.self.inside.refs c.new-2.result
 made c =
     let small : IsSmall c.measure-measure.result = search rules in
     pushed_is (c.args.node, c.measure-measure.result) c.self.invariant c.self.view_is c.in_ok-at.ensures.ok c.requires.parts c.in_default.ensures.none c.requires.sorted c.measure-measure.ensures small (c.new-2.ensures ∙ c.in_ok-at.ensures.number)

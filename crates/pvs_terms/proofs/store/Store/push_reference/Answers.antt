@@ -1,12 +1,14 @@
-use Rattle.std.proofs.Common.{refl, sym, ◌∙◌, ◌≡◌, length, arith}
+use Rattle.std.proofs.Common.{refl, sym, ◌∙◌}
+use Rattle.pvs_terms.specs.Refs.{given_of}
 use Rattle.pvs_terms.specs.StoreView.{stored}
-use Rattle.pvs_terms.proofs.StoreLaws.{pushed_ref_is, IsPushedRef, refs_differ}
+use Rattle.pvs_terms.proofs.StoreLaws.{pushed_ref_is, IsPushedRef, refs_differ, new_ref}
 use Rattle.pvs_terms.proofs.store.Store.push_reference.Goals as goal
 
-made : (c : goal.In_ok-push) → IsPushedRef c.args.self.now (stored c.self.inside.names c.self.inside.nodes c.push.new.self.items) c.args.kind c.args.actuals.now c.self.inside.names c.self.inside.nodes c.push.new.self.items c.new-r.result
-made c =
-    let at : c.new-r.result ≡ length c.self.inside.refs.items = omega (arith, c.new-r.ensures, c.len.ensures, c.self.inside.refs.ok.0) in
-    pushed_ref_is (record { kind = c.args.kind; actuals = c.in_ok-copied.copied; measure = c.args.measure }) c.self.invariant c.self.view_is c.in_ok-push.ensures.items c.in_ok-copied.ensures.ok c.requires at
+pub push-requires : goal.push-requires
+push-requires c = new_ref (given_of c.args.key) c.self.invariant c.self.view_is c.requires
+
+made : (c : goal.After-new) → IsPushedRef c.args.self.now (stored c.self.inside.names c.self.inside.nodes c.push.new.self) c.args.key.kind c.args.key.actuals.items c.self.inside.names c.self.inside.nodes c.push.new.self c.new.result
+made c = pushed_ref_is (given_of c.args.key, c.args.measure) c.self.invariant c.self.view_is c.in_ok-at.ensures.ok c.requires (c.new.ensures ∙ c.in_ok-at.ensures.number)
 
 pub invariant_of-self-2 : goal.invariant_of-self-2
 invariant_of-self-2 c = (made c).sound
@@ -20,4 +22,4 @@ returns-clause-kept c = (made c).extends
 pub returns-clause-only : goal.returns-clause-only
 returns-clause-only c q h e =
     let m = made c in
-    refs_differ q c.new-r.result m.sound refl h m.stands.ref (e ∙ sym m.stands.is)
+    refs_differ q c.new.result m.sound refl h m.stands.ref (e ∙ sym m.stands.is)
