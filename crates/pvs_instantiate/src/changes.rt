@@ -1,11 +1,11 @@
 //! Theories that come, go and grow.
 
-ghost use Rattle.std.specs.Prelude.{◌≡◌, ◌<◌, ◌-◌, ◌^◌, ℕ, [], ◌∷◌, length, Some, None, IfOk, OnOk, OnErr, IfSome, IfNone};
+ghost use Rattle.std.specs.Prelude.{◌≡◌, ◌<◌, ◌-◌, ◌^◌, ℕ, [], ◌∷◌, ◌++◌, length, Some, None, IfOk, OnOk, OnErr, IfSome, IfNone};
 ghost use Rattle.pvs_terms.specs.Stored.{IsName, text_at};
 ghost use Rattle.pvs_sig.specs.SignatureAt.{SignatureIn, FormalIn, EntryIn, ImportIn, signature_at, formal_sig_at, entry_at, import_at};
 ghost use Rattle.pvs_sig.specs.Development.{theory_named, IsSignatureOver};
 ghost use Rattle.pvs_sig.specs.Laws.{without};
-ghost use Rattle.pvs_instantiate.specs.InstancesView.{development, Leaves};
+ghost use Rattle.pvs_instantiate.specs.InstancesView.{development, stamps, stamps_from_one};
 ghost use Rattle.pvs_instantiate.specs.Standing.{numbered};
 ghost use Rattle.pvs_instantiate.specs.Grown.{IsAlone, IsNewStamp, SameStamps, MayGrow, grown, with_formal, with_entry, with_import};
 
@@ -42,7 +42,10 @@ impl<J: Judgements> Instances<J> {
         requires over { IsSignatureOver (development self.old) (signature_at self.old.store signature) }
         ensures ok { OnOk result (development self.new ≡ signature_at self.old.store signature ∷ development self.old) }
         ensures stamp { IfOk result (λ n. IsNewStamp self.new (text_at self.old.store signature.name) n) }
+        ensures others { IfOk result (λ n. self.old.last_stamp < 2 ^ 64 - 1 → (stamps self.new ≡ stamps self.old ++ (text_at self.old.store signature.name, n) ∷ []) × (self.new.kept ≡ self.old.kept)) }
+        ensures anew { IfOk result (λ n. self.old.last_stamp ≡ 2 ^ 64 - 1 → (stamps self.new ≡ stamps_from_one self.old ++ (text_at self.old.store signature.name, n) ∷ []) × (self.new.kept ≡ [])) }
         ensures err { OnErr result (development self.new ≡ development self.old) }
+        ensures refused { OnErr result (self.old.last_stamp < 2 ^ 64 - 1 → self.new ≡ self.old) }
         ensures store { self.new.store ≡ self.old.store }
     {
         self.leave_stamp();
