@@ -1,0 +1,11 @@
+pub mod ListLaws
+pub mod TheoryLaws
+pub mod MoveLaws
+pub mod NumberedLaws
+pub mod SoundLaws
+pub mod LookupLaws
+pub mod ChangeLaws
+pub mod PartLaws
+pub mod GrowLaws
+pub mod RestLaws
+pub mod VisibleLaws

@@ -1,0 +1,49 @@
+use Rattle.std.proofs.Common.{◌≡◌, Some, slice_get, sym, subst, ap}
+use Rattle.std.specs.Map.{keys_of}
+use Rattle.pvs_terms.specs.Stored.{text_at}
+use Rattle.pvs_sig.specs.SignatureAt.{formal_sig_at, FormalIn}
+use Rattle.pvs_sig.specs.Laws.{without}
+use Rattle.pvs_sig.specs.Development.{theory_named}
+use Rattle.pvs_instantiate.specs.InstancesView.{InstancesView, development}
+use Rattle.pvs_instantiate.specs.Grown.{IsAlone, MayGrow, with_formal}
+use Rattle.pvs_instantiate.specs.Changes.{AddsFormal}
+use Rattle.pvs_instantiate.proofs.ListLaws.{key_within}
+use Rattle.pvs_instantiate.proofs.GrowLaws.{adds_formal}
+use Rattle.pvs_instantiate.proofs.RestLaws.{grow_sound, grow_stamps, grow_ok, grow_err, cannot_grow}
+use Rattle.pvs_instantiate.proofs.instances.Instances.grow_formal.Goals as goal
+
+pub invariant_of-self : goal.invariant_of-self
+invariant_of-self g c =
+    let v : InstancesView = record { store = c.self.inside.store; entries = c.self.inside.theories; last_stamp = c.self.inside.last_stamp; kept = g.J.Judgements.kept c.self.inside.cache } in
+    let key = subst (λ z. slice_get (keys_of z.entries) c.in-Some.at ≡ Some c.args.theory) (sym c.self.view_is) c.in-Some.ensures.some in
+    let alone = subst (λ z. IsAlone (text_at z.store c.args.theory) (development z)) (sym c.self.view_is) c.requires.alone in
+    let may = subst (λ z. MayGrow (development z) (text_at z.store c.args.theory) (with_formal (formal_sig_at z.store c.args.formal))) (sym c.self.view_is) c.requires.over in
+    let within = subst (λ z. FormalIn z.store c.args.formal) (sym c.self.view_is) c.requires.formal in
+    grow_sound v c.grow_formal.new.self c.in-Some.at c.args.theory (with_formal (formal_sig_at c.self.inside.store c.args.formal)) (AddsFormal c.args.formal) (λ t u h r. adds_formal c.self.inside.store c.args.formal t u within h r) c.self.invariant key alone may c.grow_formal.result c.grow_formal.ensures.ok c.grow_formal.ensures.err
+
+pub returns-clause-ok : goal.returns-clause-ok
+returns-clause-ok g c =
+    let v : InstancesView = record { store = c.self.inside.store; entries = c.self.inside.theories; last_stamp = c.self.inside.last_stamp; kept = g.J.Judgements.kept c.self.inside.cache } in
+    let key = subst (λ z. slice_get (keys_of z.entries) c.in-Some.at ≡ Some c.args.theory) (sym c.self.view_is) c.in-Some.ensures.some in
+    let alone = subst (λ z. IsAlone (text_at z.store c.args.theory) (development z)) (sym c.self.view_is) c.requires.alone in
+    let may = subst (λ z. MayGrow (development z) (text_at z.store c.args.theory) (with_formal (formal_sig_at z.store c.args.formal))) (sym c.self.view_is) c.requires.over in
+    let within = subst (λ z. FormalIn z.store c.args.formal) (sym c.self.view_is) c.requires.formal in
+    rw (← c.self.view_is) (grow_ok v c.grow_formal.new.self c.in-Some.at c.args.theory (with_formal (formal_sig_at c.self.inside.store c.args.formal)) (AddsFormal c.args.formal) (λ t u h r. adds_formal c.self.inside.store c.args.formal t u within h r) c.self.invariant key alone may c.grow_formal.result c.grow_formal.ensures.ok)
+
+pub returns-clause-err : goal.returns-clause-err
+returns-clause-err g c =
+    let v : InstancesView = record { store = c.self.inside.store; entries = c.self.inside.theories; last_stamp = c.self.inside.last_stamp; kept = g.J.Judgements.kept c.self.inside.cache } in
+    let key = subst (λ z. slice_get (keys_of z.entries) c.in-Some.at ≡ Some c.args.theory) (sym c.self.view_is) c.in-Some.ensures.some in
+    let alone = subst (λ z. IsAlone (text_at z.store c.args.theory) (development z)) (sym c.self.view_is) c.requires.alone in
+    let may = subst (λ z. MayGrow (development z) (text_at z.store c.args.theory) (with_formal (formal_sig_at z.store c.args.formal))) (sym c.self.view_is) c.requires.over in
+    let within = subst (λ z. FormalIn z.store c.args.formal) (sym c.self.view_is) c.requires.formal in
+    rw (← c.self.view_is) (grow_err v c.grow_formal.new.self c.in-Some.at c.args.theory (with_formal (formal_sig_at c.self.inside.store c.args.formal)) (AddsFormal c.args.formal) (λ t u h r. adds_formal c.self.inside.store c.args.formal t u within h r) c.self.invariant key alone may c.grow_formal.result c.grow_formal.ensures.err)
+
+pub returns-clause-stamps : goal.returns-clause-stamps
+returns-clause-stamps g c =
+    let v : InstancesView = record { store = c.self.inside.store; entries = c.self.inside.theories; last_stamp = c.self.inside.last_stamp; kept = g.J.Judgements.kept c.self.inside.cache } in
+    let key = subst (λ z. slice_get (keys_of z.entries) c.in-Some.at ≡ Some c.args.theory) (sym c.self.view_is) c.in-Some.ensures.some in
+    let alone = subst (λ z. IsAlone (text_at z.store c.args.theory) (development z)) (sym c.self.view_is) c.requires.alone in
+    let may = subst (λ z. MayGrow (development z) (text_at z.store c.args.theory) (with_formal (formal_sig_at z.store c.args.formal))) (sym c.self.view_is) c.requires.over in
+    let within = subst (λ z. FormalIn z.store c.args.formal) (sym c.self.view_is) c.requires.formal in
+    rw (← c.self.view_is) (grow_stamps v c.grow_formal.new.self c.in-Some.at c.args.theory (with_formal (formal_sig_at c.self.inside.store c.args.formal)) (AddsFormal c.args.formal) (λ t u h r. adds_formal c.self.inside.store c.args.formal t u within h r) c.self.invariant key alone may c.grow_formal.result c.grow_formal.ensures.ok c.grow_formal.ensures.err)

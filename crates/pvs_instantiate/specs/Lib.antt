@@ -1,0 +1,9 @@
+pub mod Parts
+pub mod Standing
+pub mod InstancesView
+pub mod Soundness
+pub mod Faults
+pub mod Grown
+pub mod Changes
+pub mod KeptTrees
+pub mod Visible
