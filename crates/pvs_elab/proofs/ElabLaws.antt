@@ -1,0 +1,379 @@
+-- Where elaboration meets no fault, typing accepts the tree.
+use Rattle.std.proofs.Common.{◌≡◌, ℕ, zero, suc, pred, Bool, true, false, List, [], ◌∷◌, refl, subst}
+use Rattle.std.specs.Prelude.{Option, Some, None, nat_eq, nat_lt, if◌then◌else◌, Result, Ok, Err}
+use Rattle.pvs_base.specs.Answers.{◌>>=◌}
+use Rattle.pvs_base.specs.declared.place.Pos.{Pos}
+use Rattle.pvs_base.specs.declared.code.Code.{Code}
+use Rattle.pvs_terms.specs.Tree.{Text, Tree, Ref, Var, True, False, TBool, TName, Const, TSub, TFun, TPair, Lam, App, Tup, Fst, Snd, Eq, If}
+use Rattle.pvs_terms.proofs.TreeLaws.{tree_eq-same}
+use Rattle.pvs_subst.specs.Replace.{put_in}
+use Rattle.pvs_subst.specs.Contexts.{Assumptions, Variable, Hypothesis}
+use Rattle.pvs_sig.specs.Lookups.{Lookups}
+use Rattle.pvs_types.specs.Limits.{is_within_limits}
+use Rattle.pvs_types.specs.Outcome.{Outcome, Refused, Accepted, from_result, within_limits}
+use Rattle.pvs_types.specs.Outcome as outcome
+use Rattle.pvs_types.specs.BySize.{by_size}
+use Rattle.pvs_types.specs.Forms.{head, up, most, first_among}
+use Rattle.pvs_types.specs.Coerce.{lift_one, coerce}
+use Rattle.pvs_types.specs.Typing.{function_of, tuple_of, is_forall, common_type, negation, typing, infer, check, well_formed}
+use Rattle.pvs_elab.specs.Answer.{Answer, ◌>>◌, made, placed, placed_at, searched, known}
+use Rattle.pvs_elab.specs.Names.{Names}
+use Rattle.pvs_elab.specs.Phrase.{Phrase, Name, Truth, Apply, Tuple, Part, Group, Choice, Not, Equal, Iff, All, Lambda, Let, LetAs, TypeOf, Sub, Predicate, Function, Product, Other}
+use Rattle.pvs_elab.specs.Elab.{Here, Typed, Elab, local_named, entering, bound, assuming, universal}
+use Rattle.pvs_elab.specs.Elab as elaboration
+use Rattle.pvs_elab.specs.Laws.{Gives, Holds, IsLawful}
+use Rattle.pvs_elab.proofs.AnswerLaws.{gives_after, gives_then, gives_within, holds_then, holds_if, made_then, made_last, placed_then, placed_last, part_then, searched_then, known_then, holds_weaker}
+
+-- what is inferred, of a term that is checked by its own type
+record IsTyped (s : Lookups) (g : Assumptions) (t : Typed) : Type 0 where
+  pub given : Gives (infer s g t.tree) t.ty
+  pub own : (a : Tree) → check s g t.tree a ≡ outcome.◌>>=◌ (infer s g t.tree) (λ b. coerce s g t.tree b a)
+
+module _ (s : Lookups) (names : Names) where
+  -- the answers of a row
+  abbrev Types : Here → Typed → Type 0
+  Types h t = Gives (infer s h.context t.tree) t.ty
+
+  abbrev Fits : Here → Tree → Tree → Type 0
+  Fits h a t = Gives (check s h.context t a) tt
+
+  abbrev Forms : Here → Tree → Type 0
+  Forms h t = Gives (well_formed s h.context t) tt
+
+  term_lawful : (pos : Pos) (f : Here → Answer Typed) → ((h : Here) → Holds (IsTyped s h.context) (f h)) → IsLawful s (elaboration.term s names pos f)
+  term_lawful pos f k = record {
+    infer = λ h. holds_weaker (IsTyped s h.context) _ (f h) (k h) (λ t i. i.given);
+    check = λ h at a. holds_then (IsTyped s h.context) _ (f h) _ (k h) (λ t i. placed_then _ at at (coerce s h.context t.tree t.ty a) _ (λ u gu. rw (i.own a) (gives_then (infer s h.context t.tree) _ t.ty tt i.given gu)));
+    formed = λ h. tt;
+  }
+
+  kind_lawful : (pos : Pos) (f : Here → Answer Tree) → ((h : Here) → Holds (Forms h) (f h)) → IsLawful s (elaboration.kind s names pos f)
+  kind_lawful pos f k = record { infer = λ h. tt; check = λ h at a. tt; formed = k }
+
+  term_named : (x : Text) (pos : Pos) (o : Option Tree) {A : Type 0} (Q : A → Type 0) (f : Tree → Answer A) → ((t : Tree) → Holds Q (f t)) → Holds Q (elaboration.name_term s names x pos o >>= f)
+  term_named x pos (Some t) Q f k = made_then Q pos t f (λ w. k t)
+  term_named x pos None Q f k = named (names.constant_named x) where
+    named : (r : Result Ref Code) → Holds Q ((known pos r >>= λ r. made pos (Const r)) >>= f)
+    named (Ok r) = made_then Q pos (Const r) f (λ w. k (Const r))
+    named (Err c) = tt
+
+  name_formed : (x : Text) (pos : Pos) (h : Here) → Holds (Forms h) (elaboration.name_type s names x pos h)
+  name_formed x pos h = holds_if (Forms h) (elaboration.is_bool s names x) _ _ refl (
+      known_then (Forms h) pos (names.type_named x) _ (λ r.
+      made_then (Forms h) pos (TName r) _ (λ w.
+      placed_then (Forms h) pos pos (well_formed s h.context (TName r)) _ (λ u g. g))))
+
+  name_lawful : (x : Text) (pos : Pos) → IsLawful s (elaboration.name_elab s names x pos)
+  name_lawful x pos = record {
+    infer = λ h. term_named x pos (local_named x h.locals) (Types h) _ (λ t. placed_then (Types h) pos pos (infer s h.context t) _ (λ a g. g));
+    check = λ h at a. term_named x pos (local_named x h.locals) (Fits h a) _ (λ t. placed_then (Fits h a) at at (check s h.context t a) _ (λ u g. g));
+    formed = name_formed x pos;
+  }
+
+  truth_lawful : (b : Bool) (pos : Pos) → IsLawful s (elaboration.truth_elab s names b pos)
+  truth_lawful true pos = term_lawful pos _ (λ h. record { given = refl; own = λ a. refl })
+  truth_lawful false pos = term_lawful pos _ (λ h. record { given = refl; own = λ a. refl })
+
+  apply_lawful : (f x : Elab) → IsLawful s f → IsLawful s x → IsLawful s (elaboration.apply_elab s names f x)
+  apply_lawful f x lf lx = term_lawful f.place _ (λ h.
+      let Q = IsTyped s h.context in
+      holds_then (Types h) Q (f.infer h) _ (lf.infer h) (λ c gc.
+      placed_then Q f.place f.place (from_result (head s c.ty)) _ (λ b gb.
+      placed_then Q f.place f.place (function_of b) _ (λ d gd.
+      holds_then (Fits h d.first) Q (x.check h x.place d.first) _ (lx.check h x.place d.first) (λ a ga.
+      made_then Q f.place (App c.tree a) _ (λ w. made_then Q f.place (put_in d.second a) _ (λ v. record {
+        given = gives_then (infer s h.context c.tree) _ c.ty _ gc (
+            gives_then (from_result (head s c.ty)) _ b _ gb (
+            gives_then (function_of b) _ d _ gd (
+            gives_then (check s h.context a d.first) _ tt _ ga (gives_within (put_in d.second a) v))));
+        own = λ b. refl;
+      })))))))
+
+  tuple_lawful : (k : ℕ) (x y : Elab) (pos : Pos) → IsLawful s x → IsLawful s y → IsLawful s (elaboration.tuple_elab s names k x y pos)
+  tuple_lawful k x y pos lx ly = term_lawful pos _ (λ h.
+      let Q = IsTyped s h.context in
+      holds_then (Types h) Q (x.infer h) _ (lx.infer h) (λ a ga.
+      holds_then (Types h) Q (y.infer h) _ (ly.infer h) (λ b gb.
+      made_then Q pos (Tup k a.tree b.tree) _ (λ w. made_then Q pos (TPair k a.ty (lift_one b.ty)) _ (λ v. record {
+        given = gives_then (infer s h.context a.tree) _ a.ty _ ga (gives_then (infer s h.context b.tree) _ b.ty _ gb (gives_within (TPair k a.ty (lift_one b.ty)) v));
+        own = λ c. refl;
+      })))))
+
+  part_typed : (h : Here) (at number : Pos) (k i : ℕ) (t a : Tree) → Gives (infer s h.context t) a → Holds (IsTyped s h.context) (elaboration.part_from s names at number k i t a)
+  part_typed h at number k zero t a g = tt
+  part_typed h at number k (suc zero) t a g =
+      let Q = IsTyped s h.context in
+      placed_then Q at at (from_result (head s a)) _ (λ c gc.
+      part_then Q number at (tuple_of k c) _ (λ d gd. made_then Q at (Fst k t) _ (λ w. record {
+        given = gives_then (infer s h.context t) _ a _ g (gives_then (from_result (head s a)) _ c _ gc (gives_then (tuple_of k c) _ d _ gd refl));
+        own = λ c. refl;
+      })))
+  part_typed h at number k (suc (suc i)) t a g =
+      let Q = IsTyped s h.context in
+      placed_then Q at at (from_result (head s a)) _ (λ c gc.
+      part_then Q number at (tuple_of k c) _ (λ d gd.
+      let b = put_in d.second (Fst k t) in
+      made_then Q at (Snd k t) _ (λ w. made_then Q at b _ (λ v.
+      let gb : Gives (infer s h.context (Snd k t)) b = gives_then (infer s h.context t) _ a _ g (
+          gives_then (from_result (head s a)) _ c _ gc (
+          gives_then (tuple_of k c) _ d _ gd (
+          gives_then (within_limits (Fst k t)) _ (Fst k t) _ (gives_within (Fst k t) w) (gives_within b v)))) in
+      holds_if Q (nat_eq k 2) _ _ (record { given = gb; own = λ c. refl }) (part_typed h at number (pred k) (suc i) (Snd k t) b gb)))))
+
+  part_lawful : (x : Elab) (i : ℕ) (number : Pos) → IsLawful s x → IsLawful s (elaboration.part_elab s names x i number)
+  part_lawful x i number lx = term_lawful x.place _ (λ h.
+      let Q = IsTyped s h.context in
+      holds_then (Types h) Q (x.infer h) _ (lx.infer h) (λ t g.
+      placed_then Q x.place x.place (from_result (head s t.ty)) _ (λ a ga.
+      placed_then Q x.place x.place (elaboration.tuple_size s names a) _ (λ k gk.
+      holds_if Q (nat_lt k i) _ _ tt (part_typed h x.place number k i t.tree t.ty g)))))
+
+  -- what typing says of branches of these types
+  abbrev says_join : Assumptions → Assumptions → Typed → Typed → Outcome Tree
+  says_join g h a b = outcome.◌>>=◌ (from_result (up s a.ty)) (λ c. outcome.◌>>=◌ (from_result (up s b.ty)) (λ d. common_type s g h a.tree b.tree a.ty b.ty (first_among c d)))
+
+  shared_typed : (one two join : Pos) (g h : Assumptions) (a b : Typed) (o : Option Tree) → Holds (λ u. Gives (common_type s g h a.tree b.tree a.ty b.ty o) u) (elaboration.shared s names one two join g h a b o)
+  shared_typed one two join g h a b (Some u) = refl
+  shared_typed one two join g h a b None =
+      let Q = λ (u : Tree). Gives (common_type s g h a.tree b.tree a.ty b.ty None) u in
+      placed_then Q one one (from_result (most s a.ty)) _ (λ c gc.
+      placed_then Q one join (coerce s g a.tree a.ty c) _ (λ u gu.
+      placed_then Q two join (coerce s h b.tree b.ty c) _ (λ v gv.
+      gives_then (from_result (most s a.ty)) _ c _ gc (gives_then (coerce s g a.tree a.ty c) _ tt _ gu (gives_then (coerce s h b.tree b.ty c) _ tt _ gv refl)))))
+
+  branches_typed : (one two join : Pos) (g h : Assumptions) (a b : Typed) → Holds (λ u. Gives (says_join g h a b) u) (elaboration.branches_joined s names one two join g h a b)
+  branches_typed one two join g h a b =
+      let Q = λ (u : Tree). Gives (says_join g h a b) u in
+      placed_then Q one one (from_result (up s a.ty)) _ (λ c gc.
+      placed_then Q two two (from_result (up s b.ty)) _ (λ d gd.
+      holds_weaker _ Q (elaboration.shared s names one two join g h a b (first_among c d)) (shared_typed one two join g h a b (first_among c d)) (λ u gu.
+      gives_then (from_result (up s a.ty)) _ c _ gc (gives_then (from_result (up s b.ty)) _ d _ gd gu))))
+
+  choice_lawful : (early : Bool) (c x y : Elab) (join pos : Pos) → IsLawful s c → IsLawful s x → IsLawful s y → IsLawful s (elaboration.choice_elab s names early c x y join pos)
+  choice_lawful early c x y join pos lc lx ly = record {
+    infer = λ h.
+        let Q = Types h in
+        holds_then (Fits h TBool) Q (c.check h c.place TBool) _ (lc.check h c.place TBool) (λ p gp.
+        holds_then (Types (assuming p h)) Q (x.infer (assuming p h)) _ (lx.infer (assuming p h)) (λ a ga.
+        made_then Q pos (negation p) _ (λ w.
+        holds_then (Types (assuming (negation p) h)) Q (y.infer (assuming (negation p) h)) _ (ly.infer (assuming (negation p) h)) (λ b gb.
+        holds_then (λ t. Unit {0}) Q _ _ (holds_if (λ t. Unit {0}) early (made pos (If p a.tree b.tree)) (Ok (If p a.tree b.tree)) (made_last (λ t. Unit {0}) pos (If p a.tree b.tree) tt) tt) (λ t u.
+        holds_then (λ (u : Tree). Gives (says_join (Hypothesis p ∷ h.context) (Hypothesis (negation p) ∷ h.context) a b) u) Q
+        (elaboration.branches_joined s names x.place y.place join (Hypothesis p ∷ h.context) (Hypothesis (negation p) ∷ h.context) a b) _
+        (branches_typed x.place y.place join (Hypothesis p ∷ h.context) (Hypothesis (negation p) ∷ h.context) a b) (λ v gv.
+        made_then Q pos (If p a.tree b.tree) _ (λ z.
+        gives_then (check s h.context p TBool) _ tt _ gp (
+        gives_then (infer s (Hypothesis p ∷ h.context) a.tree) _ a.ty _ ga (
+        gives_then (within_limits (negation p)) _ (negation p) _ (gives_within (negation p) w) (
+        gives_then (infer s (Hypothesis (negation p) ∷ h.context) b.tree) _ b.ty _ gb gv))))))))));
+    check = λ h at u.
+        let Q = Fits h u in
+        holds_then (Fits h TBool) Q (c.check h c.place TBool) _ (lc.check h c.place TBool) (λ p gp.
+        holds_then (Fits (assuming p h) u) Q (x.check (assuming p h) x.place u) _ (lx.check (assuming p h) x.place u) (λ a ga.
+        made_then Q pos (negation p) _ (λ w.
+        holds_then (Fits (assuming (negation p) h) u) Q (y.check (assuming (negation p) h) y.place u) _ (ly.check (assuming (negation p) h) y.place u) (λ b gb.
+        made_last Q pos (If p a b) (
+        gives_then (check s h.context p TBool) _ tt _ gp (
+        gives_then (check s (Hypothesis p ∷ h.context) a u) _ tt _ ga (
+        gives_then (within_limits (negation p)) _ (negation p) _ (gives_within (negation p) w) gb)))))));
+    formed = λ h. tt;
+  }
+
+  -- FALSE and TRUE are joined at bool
+  negation_typed : (h : Here) (p : Tree) → is_within_limits (negation p) ≡ true
+      → Gives (outcome.◌>>=◌ (infer s (Hypothesis p ∷ h.context) False) (λ c.
+      outcome.◌>>=◌ (within_limits (negation p)) (λ n.
+      outcome.◌>>=◌ (infer s (Hypothesis n ∷ h.context) True) (λ d.
+      outcome.◌>>=◌ (from_result (up s c)) (λ above_c.
+      outcome.◌>>=◌ (from_result (up s d)) (λ above_d.
+      common_type s (Hypothesis p ∷ h.context) (Hypothesis n ∷ h.context) False True c d (first_among above_c above_d))))))) TBool
+  unfolding by_size up
+  negation_typed h p w = gives_after [] [] _ TBool (gives_then (within_limits (negation p)) _ (negation p) TBool (gives_within (negation p) w) refl)
+
+  not_lawful : (x : Elab) (pos : Pos) → IsLawful s x → IsLawful s (elaboration.not_elab s names x pos)
+  not_lawful x pos lx = record {
+    infer = λ h.
+        let Q = Types h in
+        holds_then (Fits h TBool) Q (x.check h x.place TBool) _ (lx.check h x.place TBool) (λ p gp.
+        made_then Q pos (negation p) _ (λ w. gives_then (check s h.context p TBool) _ tt _ gp (negation_typed h p w)));
+    check = λ h at u.
+        let Q = Fits h u in
+        holds_then (Fits h TBool) Q (x.check h x.place TBool) _ (lx.check h x.place TBool) (λ p gp.
+        placed_then Q at at (coerce s (Hypothesis p ∷ h.context) False TBool u) _ (λ v gv.
+        made_then Q pos (negation p) _ (λ w.
+        placed_then Q at at (coerce s (Hypothesis (negation p) ∷ h.context) True TBool u) _ (λ z gz.
+        gives_then (check s h.context p TBool) _ tt _ gp (
+        gives_then (check s (Hypothesis p ∷ h.context) False u) _ tt _ (gives_after [] [] (coerce s (Hypothesis p ∷ h.context) False TBool u) tt gv) (
+        gives_then (within_limits (negation p)) _ (negation p) _ (gives_within (negation p) w)
+        (gives_after [] [] (coerce s (Hypothesis (negation p) ∷ h.context) True TBool u) tt gz)))))));
+    formed = λ h. tt;
+  }
+
+  -- what typing says of an equation whose sides have these types
+  abbrev says_equal : Bool → Here → Typed → Typed → Outcome Tree
+  says_equal b h a c = if b then outcome.◌>>◌ ((typing s a.tree).predicate h.context) (outcome.pure TBool) else
+      outcome.◌>>=◌ (infer s h.context a.tree) (λ d. outcome.◌>>=◌ (infer s h.context c.tree) (λ e.
+      outcome.◌>>=◌ (from_result (most s d)) (λ m.
+      outcome.◌>>◌ (coerce s h.context c.tree e m) (outcome.◌>>◌ (coerce s h.context a.tree d m) (outcome.pure TBool)))))
+
+  -- both sides are of the most general form of the left one's type
+  record IsBalanced (h : Here) (a c : Typed) : Type 0 where
+    common : Tree
+    most_is : Gives (from_result (most s a.ty)) common
+    right : Gives (coerce s h.context c.tree c.ty common) tt
+    left : Gives (coerce s h.context a.tree a.ty common) tt
+
+  balanced_typed : (one two : Pos) (h : Here) (a c : Typed) → Holds (λ u. IsBalanced h a c) (elaboration.balanced s names one two h a c)
+  balanced_typed one two h a c =
+      let Q = λ (u : Unit {0}). IsBalanced h a c in
+      placed_then Q one one (from_result (most s a.ty)) _ (λ m gm.
+      placed_then Q two two (coerce s h.context c.tree c.ty m) _ (λ u gu.
+      placed_last Q one two (coerce s h.context a.tree a.ty m) (λ v gv. record { common = m; most_is = gm; right = gu; left = gv })))
+
+  equation_if : (b : Bool) (h : Here) (predicate : Answer (Unit {0})) (one two : Pos) (a c : Typed) (t : Tree) → Types h a → Types h c
+      → Holds (λ (r : Typed). (t ≡ r.tree) × Gives (says_equal b h a c) r.ty)
+      ((if b then searched predicate one ((typing s a.tree).predicate h.context) else elaboration.balanced s names one two h a c) >>= (λ u. Ok (record { tree = t; ty = TBool })))
+  equation_if true h predicate one two a c t ga gc =
+      searched_then (λ (r : Typed). (t ≡ r.tree) × Gives (says_equal true h a c) r.ty) predicate one ((typing s a.tree).predicate h.context) _ (λ u gu. (refl, gives_then ((typing s a.tree).predicate h.context) _ tt _ gu refl))
+  equation_if false h predicate one two a c t ga gc =
+      holds_then (λ u. IsBalanced h a c) (λ (r : Typed). (t ≡ r.tree) × Gives (says_equal false h a c) r.ty) (elaboration.balanced s names one two h a c) _ (balanced_typed one two h a c) (λ u g. (
+        refl,
+        gives_then (infer s h.context a.tree) _ a.ty _ ga (gives_then (infer s h.context c.tree) _ c.ty _ gc (
+            gives_then (from_result (most s a.ty)) _ g.common _ g.most_is (
+            gives_then (coerce s h.context c.tree c.ty g.common) _ tt _ g.right (gives_then (coerce s h.context a.tree a.ty g.common) _ tt _ g.left refl)))),
+      ))
+
+  equation_lawful : (x y : Elab) (h : Here) (a c : Typed) → Types h a → Types h c → Holds (IsTyped s h.context) (elaboration.equation s names x y h a c)
+  equation_lawful x y h a c ga gc =
+      made_then (IsTyped s h.context) x.place (Eq a.tree c.tree) _ (λ w. holds_weaker _ (IsTyped s h.context) _
+      (equation_if (is_forall a.tree c.tree) h (x.predicate h) x.place y.place a c (Eq a.tree c.tree) ga gc)
+      (λ r g. subst (λ t. IsTyped s h.context (record { tree = t; ty = r.ty })) g.0 (record { given = g.1; own = λ b. refl })))
+
+  group_lawful : (x : Elab) (pos : Pos) → IsLawful s x → IsLawful s (elaboration.predicate_elab s names x pos) → IsLawful s (elaboration.group_elab s names x pos)
+  group_lawful x pos lx lp = record { infer = lx.infer; check = lx.check; formed = lp.formed }
+
+  equal_lawful : (x y : Elab) → IsLawful s x → IsLawful s y → IsLawful s (elaboration.equal_elab s names x y)
+  equal_lawful x y lx ly = term_lawful x.place _ (λ h.
+      let Q = IsTyped s h.context in
+      holds_then (Types h) Q (x.infer h) _ (lx.infer h) (λ a ga. holds_then (Types h) Q (y.infer h) _ (ly.infer h) (λ c gc. equation_lawful x y h a c ga gc)))
+
+  iff_lawful : (x y : Elab) → IsLawful s x → IsLawful s y → IsLawful s (elaboration.iff_elab s names x y)
+  iff_lawful x y lx ly = term_lawful x.place _ (λ h.
+      let Q = IsTyped s h.context in
+      holds_then (Types h) Q (x.infer h) _ (lx.infer h) (λ a ga.
+      placed_then Q x.place x.place (from_result (head s a.ty)) _ (λ d gd.
+      placed_then Q x.place x.place (elaboration.truth_type s names d) _ (λ u gu.
+      holds_then (Types h) Q (y.infer h) _ (ly.infer h) (λ c gc. equation_lawful x y h a c ga gc)))))
+
+  all_typed : (b : Bool) → b ≡ true → (o : Outcome (Unit {0})) (p : Outcome Tree) → Gives o tt → Gives (if b then outcome.◌>>◌ o (outcome.pure TBool) else p) TBool
+  all_typed true e o p g = gives_then o _ tt _ g refl
+  all_typed false e o p g = absurd (cc)
+
+  all_lawful : (x : Text) (a p : Elab) (pos : Pos) → IsLawful s a → IsLawful s p → IsLawful s (elaboration.all_elab s names x a p pos)
+  all_lawful x a p pos la lp = term_lawful pos _ (λ h.
+      let Q = IsTyped s h.context in
+      holds_then (Forms h) Q (a.formed h) _ (la.formed h) (λ c gc.
+      holds_then (Fits (bound x c h) TBool) Q (p.check (bound x c h) p.place TBool) _ (lp.check (bound x c h) p.place TBool) (λ q gq.
+      made_then Q pos (universal c q) _ (λ w. record {
+        given = all_typed (is_forall (Lam c q) (Lam c True)) (tree_eq-same c) ((typing s (Lam c q)).predicate h.context) _ (gives_then (well_formed s h.context c) _ tt _ gc gq);
+        own = λ b. refl;
+      }))))
+
+  lambda_lawful : (d : Elab) (xs : List Text) (b : Elab) (pos : Pos) → IsLawful s d → IsLawful s b → IsLawful s (elaboration.lambda_elab s names d xs b pos)
+  lambda_lawful d xs b pos ld lb =
+      let base = term_lawful pos _ (λ h.
+      let Q = IsTyped s h.context in
+      holds_then (Forms h) Q (d.formed h) _ (ld.formed h) (λ c gc.
+      holds_then (Types (entering xs c h)) Q (b.infer (entering xs c h)) _ (lb.infer (entering xs c h)) (λ e ge.
+      made_then Q pos (Lam c e.tree) _ (λ w. made_then Q pos (TFun c e.ty) _ (λ v. record {
+        given = gives_then (well_formed s h.context c) _ tt _ gc (gives_then (infer s (Variable c ∷ h.context) e.tree) _ e.ty _ ge (gives_within (TFun c e.ty) v));
+        own = λ a. refl;
+      }))))) in record { infer = base.infer; check = base.check; formed = base.formed }
+
+  -- a term that is put in for the variable of a LAMBDA: the head of a function type is that type
+  redex_typed : (h : Here) (a b v c : Tree) → is_within_limits (TFun a c) ≡ true → is_within_limits (put_in c v) ≡ true
+      → Gives (well_formed s h.context a) tt → Gives (infer s (Variable a ∷ h.context) b) c → Gives (check s h.context v a) tt
+      → Gives (infer s h.context (App (Lam a b) v)) (put_in c v)
+  unfolding by_size head
+  redex_typed h a b v c w z ga gb gv =
+      gives_then (infer s h.context (Lam a b)) _ (TFun a c) _ (gives_then (well_formed s h.context a) _ tt _ ga (gives_then (infer s (Variable a ∷ h.context) b) _ c _ gb (gives_within (TFun a c) w)))
+      (gives_after [] [] _ _ (gives_after [] [] _ _ (gives_then (check s h.context v a) _ tt _ gv (gives_within (put_in c v) z))))
+
+  let_lawful : (x : Text) (v b : Elab) (pos : Pos) → IsLawful s v → IsLawful s b → IsLawful s (elaboration.let_elab s names x v b pos)
+  let_lawful x v b pos lv lb = term_lawful pos _ (λ h.
+      let Q = IsTyped s h.context in
+      holds_then (Types h) Q (v.infer h) _ (lv.infer h) (λ a ga.
+      placed_then Q v.place v.place (well_formed s h.context a.ty) _ (λ u gu.
+      placed_then Q v.place v.place (check s h.context a.tree a.ty) _ (λ w gw.
+      holds_then (Types (bound x a.ty h)) Q (b.infer (bound x a.ty h)) _ (lb.infer (bound x a.ty h)) (λ e ge.
+      made_then Q pos (App (Lam a.ty e.tree) a.tree) _ (λ k.
+      made_then Q pos (TFun a.ty e.ty) _ (λ l.
+      made_then Q pos (put_in e.ty a.tree) _ (λ m. record {
+        given = redex_typed h a.ty e.tree a.tree e.ty l m gu ge gw;
+        own = λ c. refl;
+      }))))))))
+
+  let_as_lawful : (x : Text) (a v b : Elab) (pos : Pos) → IsLawful s a → IsLawful s v → IsLawful s b → IsLawful s (elaboration.let_as_elab s names x a v b pos)
+  let_as_lawful x a v b pos la lv lb = term_lawful pos _ (λ h.
+      let Q = IsTyped s h.context in
+      holds_then (Forms h) Q (a.formed h) _ (la.formed h) (λ c gc.
+      holds_then (Fits h c) Q (v.check h v.place c) _ (lv.check h v.place c) (λ w gw.
+      holds_then (Types (bound x c h)) Q (b.infer (bound x c h)) _ (lb.infer (bound x c h)) (λ e ge.
+      made_then Q pos (App (Lam c e.tree) w) _ (λ k.
+      made_then Q pos (TFun c e.ty) _ (λ l.
+      made_then Q pos (put_in e.ty w) _ (λ m. record {
+        given = redex_typed h c e.tree w e.ty l m gc ge gw;
+        own = λ b. refl;
+      })))))))
+
+  well_lawful : (pos : Pos) (h : Here) (a : Tree) → Holds (Forms h) (elaboration.well s names pos h a)
+  well_lawful pos h a = made_then (Forms h) pos a _ (λ w. placed_then (Forms h) pos pos (well_formed s h.context a) _ (λ u g. g))
+
+  type_of_lawful : (x : Text) (pos : Pos) → IsLawful s (elaboration.type_of_elab s names x pos)
+  type_of_lawful x pos = kind_lawful pos _ (λ h. known_then (Forms h) pos (names.variable_named x) _ (λ v. well_lawful pos h v.ty))
+
+  sub_lawful : (x : Text) (a p : Elab) (pos : Pos) → IsLawful s a → IsLawful s p → IsLawful s (elaboration.sub_elab s names x a p pos)
+  sub_lawful x a p pos la lp = kind_lawful pos _ (λ h.
+      holds_then (Forms h) (Forms h) (a.formed h) _ (la.formed h) (λ c gc.
+      holds_then (Fits (bound x c h) TBool) (Forms h) (p.check (bound x c h) p.place TBool) _ (lp.check (bound x c h) p.place TBool) (λ q gq.
+      made_last (Forms h) pos (TSub c q) (gives_then (well_formed s h.context c) _ tt _ gc gq))))
+
+  predicate_lawful : (q : Elab) (pos : Pos) → IsLawful s q → IsLawful s (elaboration.predicate_elab s names q pos)
+  predicate_lawful q pos lq = kind_lawful pos _ (λ h.
+      holds_then (Types h) (Forms h) (q.infer h) _ (lq.infer h) (λ p gp.
+      placed_then (Forms h) q.place q.place (from_result (head s p.ty)) _ (λ d gd.
+      placed_then (Forms h) q.place q.place (elaboration.domain_of s names d) _ (λ a ga. well_lawful pos h (TSub a (App (lift_one p.tree) (Var 0)))))))
+
+  function_lawful : (d : Elab) (xs : List Text) (b : Elab) (pos : Pos) → IsLawful s d → IsLawful s b → IsLawful s (elaboration.function_elab s names d xs b pos)
+  function_lawful d xs b pos ld lb = kind_lawful pos _ (λ h.
+      holds_then (Forms h) (Forms h) (d.formed h) _ (ld.formed h) (λ c gc.
+      holds_then (Forms (entering xs c h)) (Forms h) (b.formed (entering xs c h)) _ (lb.formed (entering xs c h)) (λ e ge.
+      made_last (Forms h) pos (TFun c e) (gives_then (well_formed s h.context c) _ tt _ gc ge))))
+
+  product_lawful : (k : ℕ) (x : Text) (a b : Elab) (pos : Pos) → IsLawful s a → IsLawful s b → IsLawful s (elaboration.product_elab s names k x a b pos)
+  product_lawful k x a b pos la lb = kind_lawful pos _ (λ h.
+      holds_then (Forms h) (Forms h) (a.formed h) _ (la.formed h) (λ c gc.
+      holds_then (Forms (bound x c h)) (Forms h) (b.formed (bound x c h)) _ (lb.formed (bound x c h)) (λ e ge.
+      made_last (Forms h) pos (TPair k c e) (gives_then (well_formed s h.context c) _ tt _ gc ge))))
+
+  pub elab_lawful : (e : Phrase) → IsLawful s (elaboration.elab s names e)
+  elab_lawful (Name x pos) = name_lawful x pos
+  elab_lawful (Truth b pos) = truth_lawful b pos
+  elab_lawful (Apply f x) = apply_lawful _ _ (elab_lawful f) (elab_lawful x)
+  elab_lawful (Tuple k x y pos) = tuple_lawful k _ _ pos (elab_lawful x) (elab_lawful y)
+  elab_lawful (Part x i number) = part_lawful _ i number (elab_lawful x)
+  elab_lawful (Group x pos) = group_lawful _ pos (elab_lawful x) (predicate_lawful _ pos (elab_lawful x))
+  elab_lawful (Choice early c x y join pos) = choice_lawful early _ _ _ join pos (elab_lawful c) (elab_lawful x) (elab_lawful y)
+  elab_lawful (Not x pos) = not_lawful _ pos (elab_lawful x)
+  elab_lawful (Equal x y) = equal_lawful _ _ (elab_lawful x) (elab_lawful y)
+  elab_lawful (Iff x y) = iff_lawful _ _ (elab_lawful x) (elab_lawful y)
+  elab_lawful (All x a p pos) = all_lawful x _ _ pos (elab_lawful a) (elab_lawful p)
+  elab_lawful (Lambda d xs b pos) = lambda_lawful _ xs _ pos (elab_lawful d) (elab_lawful b)
+  elab_lawful (Let x v b pos) = let_lawful x _ _ pos (elab_lawful v) (elab_lawful b)
+  elab_lawful (LetAs x a v b pos) = let_as_lawful x _ _ _ pos (elab_lawful a) (elab_lawful v) (elab_lawful b)
+  elab_lawful (TypeOf x pos) = type_of_lawful x pos
+  elab_lawful (Sub x a p pos) = sub_lawful x _ _ pos (elab_lawful a) (elab_lawful p)
+  elab_lawful (Predicate q pos) = predicate_lawful _ pos (elab_lawful q)
+  elab_lawful (Function d xs b pos) = function_lawful _ xs _ pos (elab_lawful d) (elab_lawful b)
+  elab_lawful (Product k x a b pos) = product_lawful k x _ _ pos (elab_lawful a) (elab_lawful b)
+  elab_lawful (Other pos) = kind_lawful pos _ (λ h. tt)

@@ -1,0 +1,145 @@
+-- Declarations: the entry that one makes, and what typing owes for it (CSL-97-2, theories and TCCs; the PVS Language
+-- Reference, declarations).
+use Rattle.std.specs.Prelude.{ℕ, zero, Bool, true, false, if◌then◌else◌, List, [], ◌∷◌, ◌++◌, map, Option, Some, None}
+use Rattle.pvs_base.specs.Answers.{◌>>=◌}
+use Rattle.pvs_base.specs.declared.place.Pos.{Pos}
+use Rattle.pvs_base.specs.declared.code.Code.TheVariants.{OutOfProfile}
+use Rattle.pvs_terms.specs.Tree.{Text, Tree, Ref, TBool, True, TFun, Lam}
+use Rattle.pvs_subst.specs.Contexts.{Variable}
+use Rattle.pvs_syntax.specs.declared.expression.Expr.{Expr}
+use Rattle.pvs_syntax.specs.declared.expression.TypeExpr.{TypeExpr}
+use Rattle.pvs_syntax.specs.declared.unit.Decl.{Decl}
+use Rattle.pvs_syntax.specs.declared.unit.Decl.TheVariants as decl
+use Rattle.pvs_syntax.specs.declared.unit.FormulaWord.{FormulaWord}
+use Rattle.pvs_syntax.specs.declared.unit.FormulaWord.TheVariants as formula_word
+use Rattle.pvs_sig.specs.declared.signature.Class.{Class}
+use Rattle.pvs_sig.specs.declared.signature.Class.TheVariants as class
+use Rattle.pvs_sig.specs.Lookups.{Lookups}
+use Rattle.pvs_sig.specs.Signature.{Import, Kind, TypeSig, ConstSig, VarSig, FormulaSig}
+use Rattle.pvs_types.specs.Outcome.{Conditions, Outcome, owe, from_result, within_limits}
+use Rattle.pvs_types.specs.Outcome as outcome
+use Rattle.pvs_types.specs.Forms.{is_known_nonempty}
+use Rattle.pvs_types.specs.Typing.{negation, check, well_formed}
+use Rattle.pvs_types.specs.Symbols.{symbols}
+use Rattle.pvs_elab.specs.Answer.{Answer, ◌>>◌, pure, fault, made, placed, judged}
+use Rattle.pvs_elab.specs.Names.{Names}
+use Rattle.pvs_elab.specs.Phrase.{Phrase, Function, place}
+use Rattle.pvs_elab.specs.Desugar.{Bound, bound_of, domain, names, phrase, type_phrase}
+use Rattle.pvs_elab.specs.Elab.{Here, elab, entering, universal, variables, variable_refs}
+use Rattle.pvs_elab.specs.Formula as free
+use Rattle.pvs_elab.specs.Formula.{Formula, formula, binders_of}
+
+-- EXISTS (x: A): TRUE
+abbrev pub existential : Tree → Tree
+existential a = negation (universal a (negation True))
+
+-- A declared entry: what it is, what typing says of its trees, where the conditions are, and the VARs that gave types.
+pub record Entered : Type 0 where
+  pub kind : Kind
+  pub owed : Outcome (Unit {0})
+  pub variables : List Ref
+
+-- the symbols of the trees of an entry
+abbrev pub option_symbols : Option Tree → List Ref
+option_symbols None = []
+option_symbols (Some t) = symbols t
+
+abbrev pub kind_symbols : Kind → List Ref
+kind_symbols (TypeSig b body) = option_symbols body
+kind_symbols (ConstSig t body) = symbols t ++ option_symbols body
+kind_symbols (VarSig t) = symbols t
+kind_symbols (FormulaSig c t o) = symbols t
+
+abbrev pub class_of : FormulaWord → Class
+class_of formula_word.Axiom = class.Axiom
+class_of formula_word.Assumption = class.Assumption
+class_of formula_word.Lemma = class.Lemma
+
+-- a declaration stands under no binder
+abbrev pub outermost : Here
+outermost = record { locals = []; context = [] }
+
+module _ (s : Lookups) (scope : Names) where
+  -- that a type has a member, unless it is known to have one
+  abbrev pub existence_if : Tree → Bool → Outcome (Unit {0})
+  existence_if a true = outcome.pure tt
+  existence_if a false = outcome.◌>>=◌ (within_limits (existential a)) (owe [])
+
+  abbrev pub existence : Tree → Outcome (Unit {0})
+  existence a = outcome.◌>>=◌ (from_result (is_known_nonempty s a)) (existence_if a)
+
+  -- a constant without a definition: the type, its place, and the place of its condition
+  abbrev pub constant : Phrase → Pos → Answer Entered
+  constant a pos = do
+    t ← (elab s scope a).formed outermost
+    placed pos (existence t)
+    pure (record { kind = ConstSig t None; owed = outcome.◌>>◌ (well_formed s [] t) (existence t); variables = variable_refs scope (variables a) })
+
+  -- with one
+  abbrev pub definition : Phrase → Phrase → Answer Entered
+  definition a e = do
+    t ← (elab s scope a).formed outermost
+    b ← (elab s scope e).check outermost (place e) t
+    pure (record { kind = ConstSig t (Some b); owed = outcome.◌>>◌ (well_formed s [] t) (check s [] b t); variables = variable_refs scope (variables a ++ variables e) })
+
+  -- with parameters and a definition: the type of the parameters and its place, their names, the type and the definition
+  abbrev pub function : Phrase → Pos → List Text → Phrase → Phrase → Answer Entered
+  function d pos xs a e = do
+    c ← (elab s scope d).formed outermost
+    t ← (elab s scope a).formed (entering xs c outermost)
+    u ← made pos (TFun c t)
+    b ← (elab s scope e).check (entering xs c outermost) (place e) t
+    f ← made (place e) (Lam c b)
+    pure (record { kind = ConstSig u (Some f); owed = outcome.◌>>◌ (well_formed s [] u) (check s (Variable c ∷ []) b t); variables = variable_refs scope (variables d ++ (variables a ++ variables e)) })
+
+  abbrev pub constant_decl : List Bound → Phrase → Option Phrase → Answer Entered
+  constant_decl [] a None = constant a (place a)
+  constant_decl [] a (Some e) = definition a e
+  constant_decl (b ∷ bs) a None = constant (Function (domain b.pos (b ∷ bs)) (names (b ∷ bs)) a b.pos) b.pos
+  constant_decl (b ∷ bs) a (Some e) = function (domain b.pos (b ∷ bs)) b.pos (names (b ∷ bs)) a e
+
+  abbrev pub type_definition : Phrase → (Tree → Kind) → Answer Entered
+  type_definition a kind = do
+    t ← (elab s scope a).formed outermost
+    pure (record { kind = kind t; owed = well_formed s [] t; variables = variable_refs scope (variables a) })
+
+  abbrev pub formula_decl : Class → Phrase → Answer Entered
+  formula_decl c e = do
+    f ← formula s scope e
+    pure (record { kind = FormulaSig c f.tree 0; owed = check s (binders_of f.variables) f.open_tree TBool; variables = map (λ (b : free.Bound). b.reference) f.variables ++ variable_refs scope (variables e) })
+
+  abbrev pub body_of : Text → Option Expr → Option Phrase
+  body_of text None = None
+  body_of text (Some e) = Some (phrase text e)
+
+  -- a declaration of this text; an importing is not built
+  abbrev pub declaration : Text → Decl → Answer Entered
+  declaration text (decl.Importing i) = fault i.theory.pos OutOfProfile
+  declaration text (decl.TypeDecl w nonempty) = pure (record { kind = TypeSig nonempty None; owed = outcome.pure tt; variables = [] })
+  declaration text (decl.TypeDef w a) = type_definition (type_phrase text a) (λ t. TypeSig false (Some t))
+  declaration text (decl.VarDecl w a) = type_definition (type_phrase text a) VarSig
+  declaration text (decl.ConstDecl w bs a e) = constant_decl (map (bound_of text) bs) (type_phrase text a) (body_of text e)
+  declaration text (decl.Formula w word e) = formula_decl (class_of word) (phrase text e)
+
+-- the place of a declaration's name
+abbrev pub decl_place : Decl → Pos
+decl_place (decl.Importing i) = i.theory.pos
+decl_place (decl.TypeDecl w nonempty) = w.pos
+decl_place (decl.TypeDef w a) = w.pos
+decl_place (decl.VarDecl w a) = w.pos
+decl_place (decl.ConstDecl w bs a e) = w.pos
+decl_place (decl.Formula w word e) = w.pos
+
+-- An elaborated declaration: its entry or its importing, the conditions that it owes, in order and not yet closed, and what it
+-- uses: the symbols of its trees, and the VARs that gave types or are free.
+pub record Declared : Type 0 where
+  pub entry : Option Kind
+  pub import : Option Import
+  pub conditions : Conditions
+  pub uses : List Ref
+
+abbrev pub elab_decl : Lookups → Names → Text → Decl → Answer Declared
+elab_decl s names text d = do
+  e ← declaration s names text d
+  j ← judged (decl_place d) e.owed
+  pure (record { entry = Some e.kind; import = None; conditions = j.conditions; uses = kind_symbols e.kind ++ e.variables })
