@@ -1,2 +1,4 @@
 pub mod AnswerLaws
 pub mod ElabLaws
+pub mod FinishedLaws
+pub mod DeclarationLaws

@@ -1,5 +1,5 @@
 -- What elaboration promises: where it meets no fault, typing accepts the tree, with the same type.
-use Rattle.std.specs.Prelude.{◌≡◌, List, [], ◌∷◌, ◌++◌, Ok, Err}
+use Rattle.std.specs.Prelude.{◌≡◌, List, [], ◌∷◌, ◌++◌, Some, None, Ok, Err}
 use Rattle.pvs_base.specs.declared.place.Pos.{Pos}
 use Rattle.pvs_base.specs.declared.code.Fault.{Fault}
 use Rattle.pvs_terms.specs.Tree.{Text, Tree, Ref}
@@ -33,3 +33,54 @@ pub record IsLawful (s : Lookups) (e : Elab) : Type 0 where
 -- every phrase, in every context
 abbrev pub ElaborationIsTyped : Type 0
 ElaborationIsTyped = (s : Lookups) (names : Names) (e : Phrase) → IsLawful s (elab s names e)
+
+-- The finished answers. What typing answers of the tree is what is answered, with the type that was found; and the uses are
+-- the symbols of the tree and the VARs that gave types.
+pub record IsInferred (s : Lookups) (names : Names) (e : Phrase) (h : Here) (x : Elaborated) : Type 0 where
+  pub used : List Ref
+  pub typed : infer s h.context x.tree ≡ Accepted x.ty x.conditions used
+  pub met : (elab s names e).infer h ≡ Ok (record { tree = x.tree; ty = x.ty })
+  pub uses : AreSameSymbols x.uses (symbols x.tree ++ variable_refs names (variables e))
+
+pub record IsChecked (s : Lookups) (names : Names) (e : Phrase) (h : Here) (a : Tree) (x : Elaborated) : Type 0 where
+  pub used : List Ref
+  pub typed : check s h.context x.tree a ≡ Accepted tt x.conditions used
+  pub type_is : x.ty ≡ a
+  pub met : (elab s names e).check h (elab s names e).place a ≡ Ok x.tree
+  pub uses : AreSameSymbols x.uses (symbols x.tree ++ variable_refs names (variables e))
+
+pub record IsFormed (s : Lookups) (names : Names) (e : Phrase) (h : Here) (x : Elaborated) : Type 0 where
+  pub used : List Ref
+  pub typed : well_formed s h.context x.tree ≡ Accepted tt x.conditions used
+  pub type_is : x.ty ≡ x.tree
+  pub met : (elab s names e).formed h ≡ Ok x.tree
+  pub uses : AreSameSymbols x.uses (symbols x.tree ++ variable_refs names (variables e))
+
+abbrev pub AnswersAreTyped : Type 0
+AnswersAreTyped = (s : Lookups) (names : Names) (e : Phrase) (h : Here)
+    → ((x : Elaborated) → inferred s names e h ≡ Ok x → IsInferred s names e h x)
+    × ((a : Tree) (x : Elaborated) → checked s names e h a ≡ Ok x → IsChecked s names e h a x)
+    × ((x : Elaborated) → formed s names e h ≡ Ok x → IsFormed s names e h x)
+
+-- a fault is one that elaboration meets: typing of the finished tree has none
+abbrev pub FaultsAreMet : Type 0
+FaultsAreMet = (s : Lookups) (names : Names) (e : Phrase) (h : Here) (f : Fault)
+    → (inferred s names e h ≡ Err f → (elab s names e).infer h ≡ Err f)
+    × ((a : Tree) → checked s names e h a ≡ Err f → (elab s names e).check h (elab s names e).place a ≡ Err f)
+    × (formed s names e h ≡ Err f → (elab s names e).formed h ≡ Err f)
+
+-- a declaration: typing owes the conditions for the trees of its entry, and has no fault of its own
+pub record IsDeclared (s : Lookups) (names : Names) (text : Text) (d : Decl) (x : Declared) : Type 0 where
+  pub entered : Entered
+  pub made : declaration s names text d ≡ Ok entered
+  pub entry : x.entry ≡ Some entered.kind
+  pub import : x.import ≡ None
+  pub used : List Ref
+  pub owed : entered.owed ≡ Accepted tt x.conditions used
+  pub uses : x.uses ≡ kind_symbols entered.kind ++ entered.variables
+
+abbrev pub DeclarationsAreTyped : Type 0
+DeclarationsAreTyped = (s : Lookups) (names : Names) (text : Text) (d : Decl)
+    → Holds (λ (e : Entered). Gives e.owed tt) (declaration s names text d)
+    × ((x : Declared) → elab_decl s names text d ≡ Ok x → IsDeclared s names text d x)
+    × ((f : Fault) → elab_decl s names text d ≡ Err f → declaration s names text d ≡ Err f)

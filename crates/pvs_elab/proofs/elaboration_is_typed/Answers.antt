@@ -1,5 +1,12 @@
 use Rattle.pvs_elab.proofs.elaboration_is_typed.Goals as goal
 use Rattle.pvs_elab.proofs.ElabLaws.{elab_lawful}
+use Rattle.pvs_elab.proofs.FinishedLaws.{inferred_typed, checked_typed, formed_typed, inferred_fault, checked_fault, formed_fault}
+use Rattle.pvs_elab.proofs.DeclarationLaws.{declaration_typed, declared_is, declared_fault}
 
 pub returns : goal.returns
-returns c = record { parts = λ s names e. elab_lawful s names e }
+returns c = record {
+  parts = λ s names e. elab_lawful s names e;
+  answers = λ s names e h. (inferred_typed s names e h, checked_typed s names e h, formed_typed s names e h);
+  faults = λ s names e h f. (inferred_fault s names e h f, checked_fault s names e h f, formed_fault s names e h f);
+  declarations = λ s names text d. (declaration_typed s names text d, declared_is s names text d, declared_fault s names text d);
+}
