@@ -2,3 +2,4 @@ pub mod AnswerLaws
 pub mod ElabLaws
 pub mod FinishedLaws
 pub mod DeclarationLaws
+pub mod Examples
