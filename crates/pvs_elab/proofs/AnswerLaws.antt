@@ -9,7 +9,7 @@ use Rattle.pvs_terms.specs.Tree.{Tree, Ref}
 use Rattle.pvs_types.specs.Limits.{is_within_limits}
 use Rattle.pvs_types.specs.Outcome.{Outcome, Refused, Accepted, Conditions, outcome_after, within_limits}
 use Rattle.pvs_types.specs.Outcome as outcome
-use Rattle.pvs_elab.specs.Answer.{Answer, made, fault, placed_at, placed_part, searched, known}
+use Rattle.pvs_elab.specs.Answer.{Answer, made, placed_at, placed_part, searched, known}
 use Rattle.pvs_elab.specs.Laws.{Gives, Holds}
 
 pub gives_after : {A : Type 0} (cs : Conditions) (rs : List Ref) (o : Outcome A) (a : A) → Gives o a → Gives (outcome_after cs rs o) a

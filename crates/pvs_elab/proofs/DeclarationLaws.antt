@@ -1,7 +1,6 @@
 -- What typing owes for declared entries, it accepts.
 use Rattle.std.proofs.Common.{◌≡◌, true, false, List, [], ◌∷◌, ◌++◌, reverse, refl, subst}
-use Rattle.std.specs.Prelude.{Option, Some, None, map, Result, Ok, Err}
-use Rattle.pvs_base.specs.Answers.{◌>>=◌}
+use Rattle.std.specs.Prelude.{Option, Some, None, map, Ok, Err}
 use Rattle.pvs_base.specs.declared.place.Pos.{Pos}
 use Rattle.pvs_base.specs.declared.code.Fault.{Fault}
 use Rattle.pvs_terms.specs.Tree.{Text, Tree, TBool, TFun, Lam}
@@ -12,18 +11,17 @@ use Rattle.pvs_sig.specs.declared.signature.Class.{Class}
 use Rattle.pvs_sig.specs.Lookups.{Lookups}
 use Rattle.pvs_sig.specs.Signature.{Kind, TypeSig, VarSig}
 use Rattle.pvs_types.specs.Typing.{check, well_formed}
-use Rattle.pvs_elab.specs.Answer.{Answer, Judged, made}
+use Rattle.pvs_elab.specs.Answer.{Answer, Judged}
 use Rattle.pvs_elab.specs.Names.{Names}
 use Rattle.pvs_elab.specs.Phrase.{Phrase, Function, place}
 use Rattle.pvs_elab.specs.Desugar.{Bound, bound_of, domain, names, phrase, type_phrase}
 use Rattle.pvs_elab.specs.Elab.{elab, entering}
-use Rattle.pvs_elab.specs.Formula as free
-use Rattle.pvs_elab.specs.Formula.{Formula, formula, formula_under, free_variables, occurrences, firsts, under, closed_by, binders_of}
+use Rattle.pvs_elab.specs.Formula.{Formula, formula, free_variables, occurrences, firsts, under, closed_by, binders_of}
 use Rattle.pvs_elab.specs.Declaration.{Entered, Declared, existence, outermost, constant, definition, function, constant_decl, type_definition, formula_decl, body_of, class_of, declaration, decl_place, elab_decl, kind_symbols}
 use Rattle.pvs_elab.specs.Laws.{Gives, Holds, IsDeclared}
 use Rattle.pvs_elab.proofs.AnswerLaws.{gives_then, holds_then, holds_weaker, made_then, placed_then}
 use Rattle.pvs_elab.proofs.ElabLaws.{elab_lawful}
-use Rattle.pvs_elab.proofs.FinishedLaws.{IsFinished, finished, finished_fault}
+use Rattle.pvs_elab.proofs.FinishedLaws.{finished, finished_fault}
 
 anything : {A : Type 0} (r : Answer A) → Holds (λ a. Unit {0}) r
 anything (Ok a) = tt

@@ -16,7 +16,7 @@ use Rattle.pvs_types.specs.BySize.{by_size}
 use Rattle.pvs_types.specs.Forms.{head, up, most, first_among}
 use Rattle.pvs_types.specs.Coerce.{lift_one, coerce}
 use Rattle.pvs_types.specs.Typing.{function_of, tuple_of, is_forall, common_type, negation, typing, infer, check, well_formed}
-use Rattle.pvs_elab.specs.Answer.{Answer, ◌>>◌, made, placed, placed_at, searched, known}
+use Rattle.pvs_elab.specs.Answer.{Answer, made, searched, known}
 use Rattle.pvs_elab.specs.Names.{Names}
 use Rattle.pvs_elab.specs.Phrase.{Phrase, Name, Truth, Apply, Tuple, Part, Group, Choice, Not, Equal, Iff, All, Lambda, Let, LetAs, TypeOf, Sub, Predicate, Function, Product, Other}
 use Rattle.pvs_elab.specs.Elab.{Here, Typed, Elab, local_named, entering, bound, assuming, universal}
@@ -115,9 +115,9 @@ module _ (s : Lookups) (names : Names) where
       let b = put_in d.second (Fst k t) in
       made_then Q at (Snd k t) _ (λ w. made_then Q at b _ (λ v.
       let gb : Gives (infer s h.context (Snd k t)) b = gives_then (infer s h.context t) _ a _ g (
-          gives_then (from_result (head s a)) _ c _ gc (
-          gives_then (tuple_of k c) _ d _ gd (
-          gives_then (within_limits (Fst k t)) _ (Fst k t) _ (gives_within (Fst k t) w) (gives_within b v)))) in
+      gives_then (from_result (head s a)) _ c _ gc (
+      gives_then (tuple_of k c) _ d _ gd (
+      gives_then (within_limits (Fst k t)) _ (Fst k t) _ (gives_within (Fst k t) w) (gives_within b v)))) in
       holds_if Q (nat_eq k 2) _ _ (record { given = gb; own = λ c. refl }) (part_typed h at number (pred k) (suc i) (Snd k t) b gb)))))
 
   part_lawful : (x : Elab) (i : ℕ) (number : Pos) → IsLawful s x → IsLawful s (elaboration.part_elab s names x i number)

@@ -1,8 +1,8 @@
 -- Worked examples, by computation, over these declarations; places are columns of a line that is written above each example:
 --   T: TYPE  p: bool  c: T  f: [T -> bool]  x: VAR T  q: [T, T]
 --   S: TYPE = {y: T | f(y)}  d: S  g: [S -> T]  h: [T, T -> bool]  u: VAR bool  t: [T, bool, T]
-use Rattle.std.proofs.Common.{◌≡◌, ℕ, true, false, [], ◌∷◌, ◌++◌, List, refl}
-use Rattle.std.specs.Prelude.{Option, Some, None, Ok, codes, ◌+◌}
+use Rattle.std.proofs.Common.{◌≡◌, ℕ, true, false, [], ◌∷◌, List, refl}
+use Rattle.std.specs.Prelude.{Option, Some, None, Ok, codes}
 use Rattle.pvs_base.specs.declared.place.Pos.{Pos}
 use Rattle.pvs_base.specs.declared.code.Code.TheVariants.{Mismatch, NotFunction, NotTuple, NoSuchPart, NotPredicate, OutOfProfile, Unknown, TooLarge}
 use Rattle.pvs_syntax.specs.declared.expression.BinderWord.TheVariants as binder_word
@@ -20,12 +20,12 @@ use Rattle.pvs_types.specs.Coerce.{coerce}
 use Rattle.pvs_types.specs.Typing.{negation}
 use Rattle.pvs_elab.specs.Answer.{Answer, fault}
 use Rattle.pvs_elab.specs.Names.{Names, names_at}
-use Rattle.pvs_elab.specs.Phrase.{Phrase, Name, Truth, Apply, Tuple, Part, Group, Choice, Not, Equal, Iff, All, Lambda, Let, LetAs, TypeOf, Sub, Predicate, Function, Product, Other}
-use Rattle.pvs_elab.specs.Desugar.{Bound, Value, operator, quantified, arguments, tuple_term, lets_term, domain, names}
+use Rattle.pvs_elab.specs.Phrase.{Phrase, Name, Truth, Apply, Part, Group, Choice, Not, Equal, Lambda, Sub, Predicate, Function}
+use Rattle.pvs_elab.specs.Desugar.{Bound, Value, operator, quantified, arguments, tuple_term, lets_term, domain}
 use Rattle.pvs_elab.specs.Elab.{Here, Elaborated, elab, universal}
 use Rattle.pvs_elab.specs.Elab as elaboration
-use Rattle.pvs_elab.specs.Formula.{Formula, formula}
-use Rattle.pvs_elab.specs.Declaration.{Entered, existential, constant_decl, type_definition, formula_decl}
+use Rattle.pvs_elab.specs.Formula.{formula}
+use Rattle.pvs_elab.specs.Declaration.{existential, constant_decl, formula_decl}
 
 abbrev at : ℕ → Pos
 at n = record { line = 1; col = n }

@@ -1,7 +1,7 @@
 -- Finished answers: what typing answers of the tree that was made.
-use Rattle.std.proofs.Common.{◌≡◌, List, ◌++◌, inl, inr, refl, sym, ap, subst, ◌∙◌}
+use Rattle.std.proofs.Common.{◌≡◌, List, ◌++◌, inl, inr, refl, sym, subst}
 use Rattle.std.proofs.lemmas.List.Elements.{Contains-append_left, Contains-append_right, Contains-append_cases}
-use Rattle.std.specs.Prelude.{Result, Ok, Err}
+use Rattle.std.specs.Prelude.{Ok, Err}
 use Rattle.pvs_base.specs.Answers.{◌>>=◌}
 use Rattle.pvs_base.specs.declared.place.Pos.{Pos}
 use Rattle.pvs_base.specs.declared.code.Fault.{Fault}
@@ -9,7 +9,7 @@ use Rattle.pvs_terms.specs.Tree.{Tree, Ref}
 use Rattle.pvs_sig.specs.Lookups.{Lookups}
 use Rattle.pvs_types.specs.Outcome.{Outcome, Refused, Accepted}
 use Rattle.pvs_types.specs.Symbols.{symbols}
-use Rattle.pvs_types.specs.Typing.{typing, infer, check, well_formed}
+use Rattle.pvs_types.specs.Typing.{infer, check, well_formed}
 use Rattle.pvs_types.specs.Uses.{AreSameSymbols, Uses}
 use Rattle.pvs_types.proofs.UsesLaws.{typing_uses}
 use Rattle.pvs_elab.specs.Answer.{Answer, Judged, judged}

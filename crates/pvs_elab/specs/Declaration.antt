@@ -1,13 +1,12 @@
 -- Declarations: the entry that one makes, and what typing owes for it (CSL-97-2, theories and TCCs; the PVS Language
 -- Reference, declarations).
-use Rattle.std.specs.Prelude.{ℕ, zero, Bool, true, false, if◌then◌else◌, List, [], ◌∷◌, ◌++◌, map, Option, Some, None}
+use Rattle.std.specs.Prelude.{Bool, true, false, List, [], ◌∷◌, ◌++◌, map, Option, Some, None}
 use Rattle.pvs_base.specs.Answers.{◌>>=◌}
 use Rattle.pvs_base.specs.declared.place.Pos.{Pos}
 use Rattle.pvs_base.specs.declared.code.Code.TheVariants.{OutOfProfile}
 use Rattle.pvs_terms.specs.Tree.{Text, Tree, Ref, TBool, True, TFun, Lam}
 use Rattle.pvs_subst.specs.Contexts.{Variable}
 use Rattle.pvs_syntax.specs.declared.expression.Expr.{Expr}
-use Rattle.pvs_syntax.specs.declared.expression.TypeExpr.{TypeExpr}
 use Rattle.pvs_syntax.specs.declared.unit.Decl.{Decl}
 use Rattle.pvs_syntax.specs.declared.unit.Decl.TheVariants as decl
 use Rattle.pvs_syntax.specs.declared.unit.FormulaWord.{FormulaWord}

@@ -1,6 +1,6 @@
 -- Surface trees with their abbreviations written out (PVS Language Reference, expressions and types): a fold of surface
 -- trees into phrases. Each variable that is bound gets its type, and operators become IF, `=` and FORALL.
-use Rattle.std.specs.Prelude.{ℕ, suc, ◌+◌, ◌-◌, ◌*◌, true, false, List, [], ◌∷◌, map, length, take, drop, Option, Some, None, ⊤}
+use Rattle.std.specs.Prelude.{ℕ, suc, ◌+◌, ◌-◌, ◌*◌, true, false, List, [], ◌∷◌, map, length, Option, Some, None, ⊤}
 use Rattle.pvs_base.specs.declared.place.Pos.{Pos}
 use Rattle.pvs_syntax.specs.Words.{spelling}
 use Rattle.pvs_syntax.specs.declared.expression.Expr.{Expr}

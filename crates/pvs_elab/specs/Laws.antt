@@ -1,5 +1,5 @@
 -- What elaboration promises: where it meets no fault, typing accepts the tree, with the same type.
-use Rattle.std.specs.Prelude.{◌≡◌, List, [], ◌∷◌, ◌++◌, Some, None, Ok, Err}
+use Rattle.std.specs.Prelude.{◌≡◌, List, ◌++◌, Some, None, Ok, Err}
 use Rattle.pvs_base.specs.declared.place.Pos.{Pos}
 use Rattle.pvs_base.specs.declared.code.Fault.{Fault}
 use Rattle.pvs_terms.specs.Tree.{Text, Tree, Ref}

@@ -1,10 +1,10 @@
 -- What elaboration asks of names, at a place of a theory.
-use Rattle.std.specs.Prelude.{ℕ, Option, Some, None, Result, Ok, Err}
+use Rattle.std.specs.Prelude.{ℕ, Option, Some, Result, Ok, Err}
 use Rattle.pvs_base.specs.Answers.{◌>>=◌}
 use Rattle.pvs_base.specs.declared.code.Code.{Code}
 use Rattle.pvs_base.specs.declared.code.Code.TheVariants.{Unknown}
 use Rattle.pvs_terms.specs.Tree.{Text, Tree, Ref}
-use Rattle.pvs_sig.specs.Signature.{Signature, Kind, TypeSig, ConstSig, VarSig, FormulaSig}
+use Rattle.pvs_sig.specs.Signature.{Signature, Kind, VarSig}
 use Rattle.pvs_sig.specs.Development.{Development, kind_of}
 use Rattle.pvs_names.specs.declared.kind.NameKind.TheVariants.{TypeName, Constant}
 use Rattle.pvs_names.specs.Members.{find}
