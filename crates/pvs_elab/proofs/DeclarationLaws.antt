@@ -34,7 +34,7 @@ module _ (s : Lookups) (scope : Names) where
   constant_typed : (a : Phrase) (pos : Pos) → Holds IsAcceptedEntry (constant s scope a pos)
   constant_typed a pos =
       holds_then (λ t. Gives (well_formed s [] t) tt) IsAcceptedEntry ((elab s scope a).formed outermost) _ ((elab_lawful s scope a).formed outermost) (λ t gt.
-      placed_then IsAcceptedEntry pos pos (existence s scope t) _ (λ u gu. gives_then (well_formed s [] t) _ tt tt gt gu))
+      placed_then IsAcceptedEntry pos pos (existence s t) _ (λ u gu. gives_then (well_formed s [] t) _ tt tt gt gu))
 
   definition_typed : (a e : Phrase) → Holds IsAcceptedEntry (definition s scope a e)
   definition_typed a e =
@@ -79,7 +79,7 @@ module _ (s : Lookups) (scope : Names) where
   declaration_typed text (decl.TypeDecl w nonempty) = refl
   declaration_typed text (decl.TypeDef w a) = type_definition_typed (type_phrase text a) (λ t. TypeSig false (Some t))
   declaration_typed text (decl.VarDecl w a) = type_definition_typed (type_phrase text a) VarSig
-  declaration_typed text (decl.ConstDecl w bs a e) = constant_decl_typed (map (bound_of text) bs) (type_phrase text a) (body_of s scope text e)
+  declaration_typed text (decl.ConstDecl w bs a e) = constant_decl_typed (map (bound_of text) bs) (type_phrase text a) (body_of text e)
   declaration_typed text (decl.Formula w word e) = formula_decl_typed (class_of word) (phrase text e)
 
   abbrev DeclaredOf : Entered → Judged (Unit {0}) → Declared

@@ -40,17 +40,17 @@ module _ (s : Lookups) (names : Names) where
   abbrev Forms : Here → Tree → Type 0
   Forms h t = Gives (well_formed s h.context t) tt
 
-  term_lawful : (pos : Pos) (f : Here → Answer Typed) → ((h : Here) → Holds (IsTyped s h.context) (f h)) → IsLawful s (elaboration.term s names pos f)
+  term_lawful : (pos : Pos) (f : Here → Answer Typed) → ((h : Here) → Holds (IsTyped s h.context) (f h)) → IsLawful s (elaboration.term_elab s pos f)
   term_lawful pos f k = record {
     infer = λ h. holds_weaker (IsTyped s h.context) _ (f h) (k h) (λ t i. i.given);
     check = λ h at a. holds_then (IsTyped s h.context) _ (f h) _ (k h) (λ t i. placed_then _ at at (coerce s h.context t.tree t.ty a) _ (λ u gu. rw (i.own a) (gives_then (infer s h.context t.tree) _ t.ty tt i.given gu)));
     formed = λ h. tt;
   }
 
-  kind_lawful : (pos : Pos) (f : Here → Answer Tree) → ((h : Here) → Holds (Forms h) (f h)) → IsLawful s (elaboration.kind s names pos f)
+  kind_lawful : (pos : Pos) (f : Here → Answer Tree) → ((h : Here) → Holds (Forms h) (f h)) → IsLawful s (elaboration.type_elab pos f)
   kind_lawful pos f k = record { infer = λ h. tt; check = λ h at a. tt; formed = k }
 
-  term_named : (x : Text) (pos : Pos) (o : Option Tree) {A : Type 0} (Q : A → Type 0) (f : Tree → Answer A) → ((t : Tree) → Holds Q (f t)) → Holds Q (elaboration.name_term s names x pos o >>= f)
+  term_named : (x : Text) (pos : Pos) (o : Option Tree) {A : Type 0} (Q : A → Type 0) (f : Tree → Answer A) → ((t : Tree) → Holds Q (f t)) → Holds Q (elaboration.name_term names x pos o >>= f)
   term_named x pos (Some t) Q f k = made_then Q pos t f (λ w. k t)
   term_named x pos None Q f k = named (names.constant_named x) where
     named : (r : Result Ref Code) → Holds Q ((known pos r >>= λ r. made pos (Const r)) >>= f)
@@ -58,7 +58,7 @@ module _ (s : Lookups) (names : Names) where
     named (Err c) = tt
 
   name_formed : (x : Text) (pos : Pos) (h : Here) → Holds (Forms h) (elaboration.name_type s names x pos h)
-  name_formed x pos h = holds_if (Forms h) (elaboration.is_bool s names x) _ _ refl (
+  name_formed x pos h = holds_if (Forms h) (elaboration.is_bool x) _ _ refl (
       known_then (Forms h) pos (names.type_named x) _ (λ r.
       made_then (Forms h) pos (TName r) _ (λ w.
       placed_then (Forms h) pos pos (well_formed s h.context (TName r)) _ (λ u g. g))))
@@ -70,11 +70,11 @@ module _ (s : Lookups) (names : Names) where
     formed = name_formed x pos;
   }
 
-  truth_lawful : (b : Bool) (pos : Pos) → IsLawful s (elaboration.truth_elab s names b pos)
+  truth_lawful : (b : Bool) (pos : Pos) → IsLawful s (elaboration.truth_elab s b pos)
   truth_lawful true pos = term_lawful pos _ (λ h. record { given = refl; own = λ a. refl })
   truth_lawful false pos = term_lawful pos _ (λ h. record { given = refl; own = λ a. refl })
 
-  apply_lawful : (f x : Elab) → IsLawful s f → IsLawful s x → IsLawful s (elaboration.apply_elab s names f x)
+  apply_lawful : (f x : Elab) → IsLawful s f → IsLawful s x → IsLawful s (elaboration.apply_elab s f x)
   apply_lawful f x lf lx = term_lawful f.place _ (λ h.
       let Q = IsTyped s h.context in
       holds_then (Types h) Q (f.infer h) _ (lf.infer h) (λ c gc.
@@ -89,7 +89,7 @@ module _ (s : Lookups) (names : Names) where
         own = λ b. refl;
       })))))))
 
-  tuple_lawful : (k : ℕ) (x y : Elab) (pos : Pos) → IsLawful s x → IsLawful s y → IsLawful s (elaboration.tuple_elab s names k x y pos)
+  tuple_lawful : (k : ℕ) (x y : Elab) (pos : Pos) → IsLawful s x → IsLawful s y → IsLawful s (elaboration.tuple_elab s k x y pos)
   tuple_lawful k x y pos lx ly = term_lawful pos _ (λ h.
       let Q = IsTyped s h.context in
       holds_then (Types h) Q (x.infer h) _ (lx.infer h) (λ a ga.
@@ -99,7 +99,7 @@ module _ (s : Lookups) (names : Names) where
         own = λ c. refl;
       })))))
 
-  part_typed : (h : Here) (at number : Pos) (k i : ℕ) (t a : Tree) → Gives (infer s h.context t) a → Holds (IsTyped s h.context) (elaboration.part_from s names at number k i t a)
+  part_typed : (h : Here) (at number : Pos) (k i : ℕ) (t a : Tree) → Gives (infer s h.context t) a → Holds (IsTyped s h.context) (elaboration.part_from s at number k i t a)
   part_typed h at number k zero t a g = tt
   part_typed h at number k (suc zero) t a g =
       let Q = IsTyped s h.context in
@@ -120,19 +120,19 @@ module _ (s : Lookups) (names : Names) where
       gives_then (within_limits (Fst k t)) _ (Fst k t) _ (gives_within (Fst k t) w) (gives_within b v)))) in
       holds_if Q (nat_eq k 2) _ _ (record { given = gb; own = λ c. refl }) (part_typed h at number (pred k) (suc i) (Snd k t) b gb)))))
 
-  part_lawful : (x : Elab) (i : ℕ) (number : Pos) → IsLawful s x → IsLawful s (elaboration.part_elab s names x i number)
+  part_lawful : (x : Elab) (i : ℕ) (number : Pos) → IsLawful s x → IsLawful s (elaboration.part_elab s x i number)
   part_lawful x i number lx = term_lawful x.place _ (λ h.
       let Q = IsTyped s h.context in
       holds_then (Types h) Q (x.infer h) _ (lx.infer h) (λ t g.
       placed_then Q x.place x.place (from_result (head s t.ty)) _ (λ a ga.
-      placed_then Q x.place x.place (elaboration.tuple_size s names a) _ (λ k gk.
+      placed_then Q x.place x.place (elaboration.tuple_size a) _ (λ k gk.
       holds_if Q (nat_lt k i) _ _ tt (part_typed h x.place number k i t.tree t.ty g)))))
 
   -- what typing says of branches of these types
   abbrev says_join : Assumptions → Assumptions → Typed → Typed → Outcome Tree
   says_join g h a b = outcome.◌>>=◌ (from_result (up s a.ty)) (λ c. outcome.◌>>=◌ (from_result (up s b.ty)) (λ d. common_type s g h a.tree b.tree a.ty b.ty (first_among c d)))
 
-  shared_typed : (one two join : Pos) (g h : Assumptions) (a b : Typed) (o : Option Tree) → Holds (λ u. Gives (common_type s g h a.tree b.tree a.ty b.ty o) u) (elaboration.shared s names one two join g h a b o)
+  shared_typed : (one two join : Pos) (g h : Assumptions) (a b : Typed) (o : Option Tree) → Holds (λ u. Gives (common_type s g h a.tree b.tree a.ty b.ty o) u) (elaboration.shared s one two join g h a b o)
   shared_typed one two join g h a b (Some u) = refl
   shared_typed one two join g h a b None =
       let Q = λ (u : Tree). Gives (common_type s g h a.tree b.tree a.ty b.ty None) u in
@@ -141,15 +141,15 @@ module _ (s : Lookups) (names : Names) where
       placed_then Q two join (coerce s h b.tree b.ty c) _ (λ v gv.
       gives_then (from_result (most s a.ty)) _ c _ gc (gives_then (coerce s g a.tree a.ty c) _ tt _ gu (gives_then (coerce s h b.tree b.ty c) _ tt _ gv refl)))))
 
-  branches_typed : (one two join : Pos) (g h : Assumptions) (a b : Typed) → Holds (λ u. Gives (says_join g h a b) u) (elaboration.branches_joined s names one two join g h a b)
+  branches_typed : (one two join : Pos) (g h : Assumptions) (a b : Typed) → Holds (λ u. Gives (says_join g h a b) u) (elaboration.branches_joined s one two join g h a b)
   branches_typed one two join g h a b =
       let Q = λ (u : Tree). Gives (says_join g h a b) u in
       placed_then Q one one (from_result (up s a.ty)) _ (λ c gc.
       placed_then Q two two (from_result (up s b.ty)) _ (λ d gd.
-      holds_weaker _ Q (elaboration.shared s names one two join g h a b (first_among c d)) (shared_typed one two join g h a b (first_among c d)) (λ u gu.
+      holds_weaker _ Q (elaboration.shared s one two join g h a b (first_among c d)) (shared_typed one two join g h a b (first_among c d)) (λ u gu.
       gives_then (from_result (up s a.ty)) _ c _ gc (gives_then (from_result (up s b.ty)) _ d _ gd gu))))
 
-  choice_lawful : (early : Bool) (c x y : Elab) (join pos : Pos) → IsLawful s c → IsLawful s x → IsLawful s y → IsLawful s (elaboration.choice_elab s names early c x y join pos)
+  choice_lawful : (early : Bool) (c x y : Elab) (join pos : Pos) → IsLawful s c → IsLawful s x → IsLawful s y → IsLawful s (elaboration.choice_elab s early c x y join pos)
   choice_lawful early c x y join pos lc lx ly = record {
     infer = λ h.
         let Q = Types h in
@@ -159,7 +159,7 @@ module _ (s : Lookups) (names : Names) where
         holds_then (Types (assuming (negation p) h)) Q (y.infer (assuming (negation p) h)) _ (ly.infer (assuming (negation p) h)) (λ b gb.
         holds_then (λ t. Unit {0}) Q _ _ (holds_if (λ t. Unit {0}) early (made pos (If p a.tree b.tree)) (Ok (If p a.tree b.tree)) (made_last (λ t. Unit {0}) pos (If p a.tree b.tree) tt) tt) (λ t u.
         holds_then (λ (u : Tree). Gives (says_join (Hypothesis p ∷ h.context) (Hypothesis (negation p) ∷ h.context) a b) u) Q
-        (elaboration.branches_joined s names x.place y.place join (Hypothesis p ∷ h.context) (Hypothesis (negation p) ∷ h.context) a b) _
+        (elaboration.branches_joined s x.place y.place join (Hypothesis p ∷ h.context) (Hypothesis (negation p) ∷ h.context) a b) _
         (branches_typed x.place y.place join (Hypothesis p ∷ h.context) (Hypothesis (negation p) ∷ h.context) a b) (λ v gv.
         made_then Q pos (If p a.tree b.tree) _ (λ z.
         gives_then (check s h.context p TBool) _ tt _ gp (
@@ -190,7 +190,7 @@ module _ (s : Lookups) (names : Names) where
   unfolding by_size up
   negation_typed h p w = gives_after [] [] _ TBool (gives_then (within_limits (negation p)) _ (negation p) TBool (gives_within (negation p) w) refl)
 
-  not_lawful : (x : Elab) (pos : Pos) → IsLawful s x → IsLawful s (elaboration.not_elab s names x pos)
+  not_lawful : (x : Elab) (pos : Pos) → IsLawful s x → IsLawful s (elaboration.not_elab s x pos)
   not_lawful x pos lx = record {
     infer = λ h.
         let Q = Types h in
@@ -223,7 +223,7 @@ module _ (s : Lookups) (names : Names) where
     right : Gives (coerce s h.context c.tree c.ty common) tt
     left : Gives (coerce s h.context a.tree a.ty common) tt
 
-  balanced_typed : (one two : Pos) (h : Here) (a c : Typed) → Holds (λ u. IsBalanced h a c) (elaboration.balanced s names one two h a c)
+  balanced_typed : (one two : Pos) (h : Here) (a c : Typed) → Holds (λ u. IsBalanced h a c) (elaboration.balanced s one two h a c)
   balanced_typed one two h a c =
       let Q = λ (u : Unit {0}). IsBalanced h a c in
       placed_then Q one one (from_result (most s a.ty)) _ (λ m gm.
@@ -232,44 +232,44 @@ module _ (s : Lookups) (names : Names) where
 
   equation_if : (b : Bool) (h : Here) (predicate : Answer (Unit {0})) (one two : Pos) (a c : Typed) (t : Tree) → Types h a → Types h c
       → Holds (λ (r : Typed). (t ≡ r.tree) × Gives (says_equal b h a c) r.ty)
-      ((if b then searched predicate one ((typing s a.tree).predicate h.context) else elaboration.balanced s names one two h a c) >>= (λ u. Ok (record { tree = t; ty = TBool })))
+      ((if b then searched predicate one ((typing s a.tree).predicate h.context) else elaboration.balanced s one two h a c) >>= (λ u. Ok (record { tree = t; ty = TBool })))
   equation_if true h predicate one two a c t ga gc =
       searched_then (λ (r : Typed). (t ≡ r.tree) × Gives (says_equal true h a c) r.ty) predicate one ((typing s a.tree).predicate h.context) _ (λ u gu. (refl, gives_then ((typing s a.tree).predicate h.context) _ tt _ gu refl))
   equation_if false h predicate one two a c t ga gc =
-      holds_then (λ u. IsBalanced h a c) (λ (r : Typed). (t ≡ r.tree) × Gives (says_equal false h a c) r.ty) (elaboration.balanced s names one two h a c) _ (balanced_typed one two h a c) (λ u g. (
+      holds_then (λ u. IsBalanced h a c) (λ (r : Typed). (t ≡ r.tree) × Gives (says_equal false h a c) r.ty) (elaboration.balanced s one two h a c) _ (balanced_typed one two h a c) (λ u g. (
         refl,
         gives_then (infer s h.context a.tree) _ a.ty _ ga (gives_then (infer s h.context c.tree) _ c.ty _ gc (
             gives_then (from_result (most s a.ty)) _ g.common _ g.most_is (
             gives_then (coerce s h.context c.tree c.ty g.common) _ tt _ g.right (gives_then (coerce s h.context a.tree a.ty g.common) _ tt _ g.left refl)))),
       ))
 
-  equation_lawful : (x y : Elab) (h : Here) (a c : Typed) → Types h a → Types h c → Holds (IsTyped s h.context) (elaboration.equation s names x y h a c)
+  equation_lawful : (x y : Elab) (h : Here) (a c : Typed) → Types h a → Types h c → Holds (IsTyped s h.context) (elaboration.equation s x y h a c)
   equation_lawful x y h a c ga gc =
       made_then (IsTyped s h.context) x.place (Eq a.tree c.tree) _ (λ w. holds_weaker _ (IsTyped s h.context) _
       (equation_if (is_forall a.tree c.tree) h (x.predicate h) x.place y.place a c (Eq a.tree c.tree) ga gc)
       (λ r g. subst (λ t. IsTyped s h.context (record { tree = t; ty = r.ty })) g.0 (record { given = g.1; own = λ b. refl })))
 
-  group_lawful : (x : Elab) (pos : Pos) → IsLawful s x → IsLawful s (elaboration.predicate_elab s names x pos) → IsLawful s (elaboration.group_elab s names x pos)
+  group_lawful : (x : Elab) (pos : Pos) → IsLawful s x → IsLawful s (elaboration.predicate_elab s x pos) → IsLawful s (elaboration.group_elab s x pos)
   group_lawful x pos lx lp = record { infer = lx.infer; check = lx.check; formed = lp.formed }
 
-  equal_lawful : (x y : Elab) → IsLawful s x → IsLawful s y → IsLawful s (elaboration.equal_elab s names x y)
+  equal_lawful : (x y : Elab) → IsLawful s x → IsLawful s y → IsLawful s (elaboration.equal_elab s x y)
   equal_lawful x y lx ly = term_lawful x.place _ (λ h.
       let Q = IsTyped s h.context in
       holds_then (Types h) Q (x.infer h) _ (lx.infer h) (λ a ga. holds_then (Types h) Q (y.infer h) _ (ly.infer h) (λ c gc. equation_lawful x y h a c ga gc)))
 
-  iff_lawful : (x y : Elab) → IsLawful s x → IsLawful s y → IsLawful s (elaboration.iff_elab s names x y)
+  iff_lawful : (x y : Elab) → IsLawful s x → IsLawful s y → IsLawful s (elaboration.iff_elab s x y)
   iff_lawful x y lx ly = term_lawful x.place _ (λ h.
       let Q = IsTyped s h.context in
       holds_then (Types h) Q (x.infer h) _ (lx.infer h) (λ a ga.
       placed_then Q x.place x.place (from_result (head s a.ty)) _ (λ d gd.
-      placed_then Q x.place x.place (elaboration.truth_type s names d) _ (λ u gu.
+      placed_then Q x.place x.place (elaboration.truth_type d) _ (λ u gu.
       holds_then (Types h) Q (y.infer h) _ (ly.infer h) (λ c gc. equation_lawful x y h a c ga gc)))))
 
   all_typed : (b : Bool) → b ≡ true → (o : Outcome (Unit {0})) (p : Outcome Tree) → Gives o tt → Gives (if b then outcome.◌>>◌ o (outcome.pure TBool) else p) TBool
   all_typed true e o p g = gives_then o _ tt _ g refl
   all_typed false e o p g = absurd (cc)
 
-  all_lawful : (x : Text) (a p : Elab) (pos : Pos) → IsLawful s a → IsLawful s p → IsLawful s (elaboration.all_elab s names x a p pos)
+  all_lawful : (x : Text) (a p : Elab) (pos : Pos) → IsLawful s a → IsLawful s p → IsLawful s (elaboration.all_elab s x a p pos)
   all_lawful x a p pos la lp = term_lawful pos _ (λ h.
       let Q = IsTyped s h.context in
       holds_then (Forms h) Q (a.formed h) _ (la.formed h) (λ c gc.
@@ -279,7 +279,7 @@ module _ (s : Lookups) (names : Names) where
         own = λ b. refl;
       }))))
 
-  lambda_lawful : (d : Elab) (xs : List Text) (b : Elab) (pos : Pos) → IsLawful s d → IsLawful s b → IsLawful s (elaboration.lambda_elab s names d xs b pos)
+  lambda_lawful : (d : Elab) (xs : List Text) (b : Elab) (pos : Pos) → IsLawful s d → IsLawful s b → IsLawful s (elaboration.lambda_elab s d xs b pos)
   lambda_lawful d xs b pos ld lb =
       let base = term_lawful pos _ (λ h.
       let Q = IsTyped s h.context in
@@ -299,7 +299,7 @@ module _ (s : Lookups) (names : Names) where
       gives_then (infer s h.context (Lam a b)) _ (TFun a c) _ (gives_then (well_formed s h.context a) _ tt _ ga (gives_then (infer s (Variable a ∷ h.context) b) _ c _ gb (gives_within (TFun a c) w)))
       (gives_after [] [] _ _ (gives_after [] [] _ _ (gives_then (check s h.context v a) _ tt _ gv (gives_within (put_in c v) z))))
 
-  let_lawful : (x : Text) (v b : Elab) (pos : Pos) → IsLawful s v → IsLawful s b → IsLawful s (elaboration.let_elab s names x v b pos)
+  let_lawful : (x : Text) (v b : Elab) (pos : Pos) → IsLawful s v → IsLawful s b → IsLawful s (elaboration.let_elab s x v b pos)
   let_lawful x v b pos lv lb = term_lawful pos _ (λ h.
       let Q = IsTyped s h.context in
       holds_then (Types h) Q (v.infer h) _ (lv.infer h) (λ a ga.
@@ -313,7 +313,7 @@ module _ (s : Lookups) (names : Names) where
         own = λ c. refl;
       }))))))))
 
-  let_as_lawful : (x : Text) (a v b : Elab) (pos : Pos) → IsLawful s a → IsLawful s v → IsLawful s b → IsLawful s (elaboration.let_as_elab s names x a v b pos)
+  let_as_lawful : (x : Text) (a v b : Elab) (pos : Pos) → IsLawful s a → IsLawful s v → IsLawful s b → IsLawful s (elaboration.let_as_elab s x a v b pos)
   let_as_lawful x a v b pos la lv lb = term_lawful pos _ (λ h.
       let Q = IsTyped s h.context in
       holds_then (Forms h) Q (a.formed h) _ (la.formed h) (λ c gc.
@@ -326,31 +326,31 @@ module _ (s : Lookups) (names : Names) where
         own = λ b. refl;
       })))))))
 
-  well_lawful : (pos : Pos) (h : Here) (a : Tree) → Holds (Forms h) (elaboration.well s names pos h a)
+  well_lawful : (pos : Pos) (h : Here) (a : Tree) → Holds (Forms h) (elaboration.well s pos h a)
   well_lawful pos h a = made_then (Forms h) pos a _ (λ w. placed_then (Forms h) pos pos (well_formed s h.context a) _ (λ u g. g))
 
   type_of_lawful : (x : Text) (pos : Pos) → IsLawful s (elaboration.type_of_elab s names x pos)
   type_of_lawful x pos = kind_lawful pos _ (λ h. known_then (Forms h) pos (names.variable_named x) _ (λ v. well_lawful pos h v.ty))
 
-  sub_lawful : (x : Text) (a p : Elab) (pos : Pos) → IsLawful s a → IsLawful s p → IsLawful s (elaboration.sub_elab s names x a p pos)
+  sub_lawful : (x : Text) (a p : Elab) (pos : Pos) → IsLawful s a → IsLawful s p → IsLawful s (elaboration.sub_elab x a p pos)
   sub_lawful x a p pos la lp = kind_lawful pos _ (λ h.
       holds_then (Forms h) (Forms h) (a.formed h) _ (la.formed h) (λ c gc.
       holds_then (Fits (bound x c h) TBool) (Forms h) (p.check (bound x c h) p.place TBool) _ (lp.check (bound x c h) p.place TBool) (λ q gq.
       made_last (Forms h) pos (TSub c q) (gives_then (well_formed s h.context c) _ tt _ gc gq))))
 
-  predicate_lawful : (q : Elab) (pos : Pos) → IsLawful s q → IsLawful s (elaboration.predicate_elab s names q pos)
+  predicate_lawful : (q : Elab) (pos : Pos) → IsLawful s q → IsLawful s (elaboration.predicate_elab s q pos)
   predicate_lawful q pos lq = kind_lawful pos _ (λ h.
       holds_then (Types h) (Forms h) (q.infer h) _ (lq.infer h) (λ p gp.
       placed_then (Forms h) q.place q.place (from_result (head s p.ty)) _ (λ d gd.
-      placed_then (Forms h) q.place q.place (elaboration.domain_of s names d) _ (λ a ga. well_lawful pos h (TSub a (App (lift_one p.tree) (Var 0)))))))
+      placed_then (Forms h) q.place q.place (elaboration.domain_of s d) _ (λ a ga. well_lawful pos h (TSub a (App (lift_one p.tree) (Var 0)))))))
 
-  function_lawful : (d : Elab) (xs : List Text) (b : Elab) (pos : Pos) → IsLawful s d → IsLawful s b → IsLawful s (elaboration.function_elab s names d xs b pos)
+  function_lawful : (d : Elab) (xs : List Text) (b : Elab) (pos : Pos) → IsLawful s d → IsLawful s b → IsLawful s (elaboration.function_elab d xs b pos)
   function_lawful d xs b pos ld lb = kind_lawful pos _ (λ h.
       holds_then (Forms h) (Forms h) (d.formed h) _ (ld.formed h) (λ c gc.
       holds_then (Forms (entering xs c h)) (Forms h) (b.formed (entering xs c h)) _ (lb.formed (entering xs c h)) (λ e ge.
       made_last (Forms h) pos (TFun c e) (gives_then (well_formed s h.context c) _ tt _ gc ge))))
 
-  product_lawful : (k : ℕ) (x : Text) (a b : Elab) (pos : Pos) → IsLawful s a → IsLawful s b → IsLawful s (elaboration.product_elab s names k x a b pos)
+  product_lawful : (k : ℕ) (x : Text) (a b : Elab) (pos : Pos) → IsLawful s a → IsLawful s b → IsLawful s (elaboration.product_elab k x a b pos)
   product_lawful k x a b pos la lb = kind_lawful pos _ (λ h.
       holds_then (Forms h) (Forms h) (a.formed h) _ (la.formed h) (λ c gc.
       holds_then (Forms (bound x c h)) (Forms h) (b.formed (bound x c h)) _ (lb.formed (bound x c h)) (λ e ge.

@@ -58,67 +58,66 @@ class_of formula_word.Lemma = class.Lemma
 abbrev pub outermost : Here
 outermost = record { locals = []; context = [] }
 
-module _ (s : Lookups) (scope : Names) where
-  -- that a type has a member, unless it is known to have one
-  abbrev pub existence_if : Tree → Bool → Outcome (Unit {0})
-  existence_if a true = outcome.pure tt
-  existence_if a false = outcome.◌>>=◌ (within_limits (existential a)) (owe [])
+-- that a type has a member, unless it is known to have one
+abbrev pub existence_if : Tree → Bool → Outcome (Unit {0})
+existence_if a true = outcome.pure tt
+existence_if a false = outcome.◌>>=◌ (within_limits (existential a)) (owe [])
 
-  abbrev pub existence : Tree → Outcome (Unit {0})
-  existence a = outcome.◌>>=◌ (from_result (is_known_nonempty s a)) (existence_if a)
+abbrev pub existence : Lookups → Tree → Outcome (Unit {0})
+existence s a = outcome.◌>>=◌ (from_result (is_known_nonempty s a)) (existence_if a)
 
-  -- a constant without a definition: the type, its place, and the place of its condition
-  abbrev pub constant : Phrase → Pos → Answer Entered
-  constant a pos = do
-    t ← (elab s scope a).formed outermost
-    placed pos (existence t)
-    pure (record { kind = ConstSig t None; owed = outcome.◌>>◌ (well_formed s [] t) (existence t); variables = variable_refs scope (variables a) })
+-- a constant without a definition: the type, its place, and the place of its condition
+abbrev pub constant : Lookups → Names → Phrase → Pos → Answer Entered
+constant s scope a pos = do
+  t ← (elab s scope a).formed outermost
+  placed pos (existence s t)
+  pure (record { kind = ConstSig t None; owed = outcome.◌>>◌ (well_formed s [] t) (existence s t); variables = variable_refs scope (variables a) })
 
-  -- with one
-  abbrev pub definition : Phrase → Phrase → Answer Entered
-  definition a e = do
-    t ← (elab s scope a).formed outermost
-    b ← (elab s scope e).check outermost (place e) t
-    pure (record { kind = ConstSig t (Some b); owed = outcome.◌>>◌ (well_formed s [] t) (check s [] b t); variables = variable_refs scope (variables a ++ variables e) })
+-- with one
+abbrev pub definition : Lookups → Names → Phrase → Phrase → Answer Entered
+definition s scope a e = do
+  t ← (elab s scope a).formed outermost
+  b ← (elab s scope e).check outermost (place e) t
+  pure (record { kind = ConstSig t (Some b); owed = outcome.◌>>◌ (well_formed s [] t) (check s [] b t); variables = variable_refs scope (variables a ++ variables e) })
 
-  -- with parameters and a definition: the type of the parameters and its place, their names, the type and the definition
-  abbrev pub function : Phrase → Pos → List Text → Phrase → Phrase → Answer Entered
-  function d pos xs a e = do
-    c ← (elab s scope d).formed outermost
-    t ← (elab s scope a).formed (entering xs c outermost)
-    u ← made pos (TFun c t)
-    b ← (elab s scope e).check (entering xs c outermost) (place e) t
-    f ← made (place e) (Lam c b)
-    pure (record { kind = ConstSig u (Some f); owed = outcome.◌>>◌ (well_formed s [] u) (check s (Variable c ∷ []) b t); variables = variable_refs scope (variables d ++ (variables a ++ variables e)) })
+-- with parameters and a definition: the type of the parameters and its place, their names, the type and the definition
+abbrev pub function : Lookups → Names → Phrase → Pos → List Text → Phrase → Phrase → Answer Entered
+function s scope d pos xs a e = do
+  c ← (elab s scope d).formed outermost
+  t ← (elab s scope a).formed (entering xs c outermost)
+  u ← made pos (TFun c t)
+  b ← (elab s scope e).check (entering xs c outermost) (place e) t
+  f ← made (place e) (Lam c b)
+  pure (record { kind = ConstSig u (Some f); owed = outcome.◌>>◌ (well_formed s [] u) (check s (Variable c ∷ []) b t); variables = variable_refs scope (variables d ++ (variables a ++ variables e)) })
 
-  abbrev pub constant_decl : List Bound → Phrase → Option Phrase → Answer Entered
-  constant_decl [] a None = constant a (place a)
-  constant_decl [] a (Some e) = definition a e
-  constant_decl (b ∷ bs) a None = constant (Function (domain b.pos (b ∷ bs)) (names (b ∷ bs)) a b.pos) b.pos
-  constant_decl (b ∷ bs) a (Some e) = function (domain b.pos (b ∷ bs)) b.pos (names (b ∷ bs)) a e
+abbrev pub constant_decl : Lookups → Names → List Bound → Phrase → Option Phrase → Answer Entered
+constant_decl s scope [] a None = constant s scope a (place a)
+constant_decl s scope [] a (Some e) = definition s scope a e
+constant_decl s scope (b ∷ bs) a None = constant s scope (Function (domain b.pos (b ∷ bs)) (names (b ∷ bs)) a b.pos) b.pos
+constant_decl s scope (b ∷ bs) a (Some e) = function s scope (domain b.pos (b ∷ bs)) b.pos (names (b ∷ bs)) a e
 
-  abbrev pub type_definition : Phrase → (Tree → Kind) → Answer Entered
-  type_definition a kind = do
-    t ← (elab s scope a).formed outermost
-    pure (record { kind = kind t; owed = well_formed s [] t; variables = variable_refs scope (variables a) })
+abbrev pub type_definition : Lookups → Names → Phrase → (Tree → Kind) → Answer Entered
+type_definition s scope a kind = do
+  t ← (elab s scope a).formed outermost
+  pure (record { kind = kind t; owed = well_formed s [] t; variables = variable_refs scope (variables a) })
 
-  abbrev pub formula_decl : Class → Phrase → Answer Entered
-  formula_decl c e = do
-    f ← formula s scope e
-    pure (record { kind = FormulaSig c f.tree 0; owed = check s (binders_of f.variables) f.open_tree TBool; variables = map (λ (b : free.Bound). b.reference) f.variables ++ variable_refs scope (variables e) })
+abbrev pub formula_decl : Lookups → Names → Class → Phrase → Answer Entered
+formula_decl s scope c e = do
+  f ← formula s scope e
+  pure (record { kind = FormulaSig c f.tree 0; owed = check s (binders_of f.variables) f.open_tree TBool; variables = map (λ (b : free.Bound). b.reference) f.variables ++ variable_refs scope (variables e) })
 
-  abbrev pub body_of : Text → Option Expr → Option Phrase
-  body_of text None = None
-  body_of text (Some e) = Some (phrase text e)
+abbrev pub body_of : Text → Option Expr → Option Phrase
+body_of text None = None
+body_of text (Some e) = Some (phrase text e)
 
-  -- a declaration of this text; an importing is not built
-  abbrev pub declaration : Text → Decl → Answer Entered
-  declaration text (decl.Importing i) = fault i.theory.pos OutOfProfile
-  declaration text (decl.TypeDecl w nonempty) = pure (record { kind = TypeSig nonempty None; owed = outcome.pure tt; variables = [] })
-  declaration text (decl.TypeDef w a) = type_definition (type_phrase text a) (λ t. TypeSig false (Some t))
-  declaration text (decl.VarDecl w a) = type_definition (type_phrase text a) VarSig
-  declaration text (decl.ConstDecl w bs a e) = constant_decl (map (bound_of text) bs) (type_phrase text a) (body_of text e)
-  declaration text (decl.Formula w word e) = formula_decl (class_of word) (phrase text e)
+-- a declaration of this text; an importing is not built
+abbrev pub declaration : Lookups → Names → Text → Decl → Answer Entered
+declaration s scope text (decl.Importing i) = fault i.theory.pos OutOfProfile
+declaration s scope text (decl.TypeDecl w nonempty) = pure (record { kind = TypeSig nonempty None; owed = outcome.pure tt; variables = [] })
+declaration s scope text (decl.TypeDef w a) = type_definition s scope (type_phrase text a) (λ t. TypeSig false (Some t))
+declaration s scope text (decl.VarDecl w a) = type_definition s scope (type_phrase text a) VarSig
+declaration s scope text (decl.ConstDecl w bs a e) = constant_decl s scope (map (bound_of text) bs) (type_phrase text a) (body_of text e)
+declaration s scope text (decl.Formula w word e) = formula_decl s scope (class_of word) (phrase text e)
 
 -- the place of a declaration's name
 abbrev pub decl_place : Decl → Pos
