@@ -2,4 +2,5 @@ pub mod AnswerLaws
 pub mod ElabLaws
 pub mod FinishedLaws
 pub mod DeclarationLaws
+pub mod NameLaws
 pub mod Examples

@@ -1,16 +1,19 @@
 -- What elaboration promises: where it meets no fault, typing accepts the tree, with the same type.
-use Rattle.std.specs.Prelude.{◌≡◌, List, ◌++◌, Some, None, Ok, Err}
+use Rattle.std.specs.Prelude.{◌≡◌, ℕ, true, List, ◌++◌, Some, None, IsSome, Ok, Err}
 use Rattle.pvs_base.specs.declared.place.Pos.{Pos}
 use Rattle.pvs_base.specs.declared.code.Fault.{Fault}
 use Rattle.pvs_terms.specs.Tree.{Text, Tree, Ref}
 use Rattle.pvs_syntax.specs.declared.unit.Decl.{Decl}
+use Rattle.pvs_sig.specs.Signature.{Signature}
+use Rattle.pvs_sig.specs.Development.{Development, IsDevelopment, IsSignatureOver}
 use Rattle.pvs_sig.specs.Lookups.{Lookups}
+use Rattle.pvs_sig.specs.LookupsOf.{lookups_of}
 use Rattle.pvs_types.specs.Outcome.{Outcome, Refused, Accepted}
 use Rattle.pvs_types.specs.Symbols.{symbols}
 use Rattle.pvs_types.specs.Typing.{infer, check, well_formed}
 use Rattle.pvs_types.specs.Uses.{AreSameSymbols}
 use Rattle.pvs_elab.specs.Answer.{Answer}
-use Rattle.pvs_elab.specs.Names.{Names}
+use Rattle.pvs_elab.specs.Names.{Names, names_at}
 use Rattle.pvs_elab.specs.Phrase.{Phrase}
 use Rattle.pvs_elab.specs.Elab.{Here, Elab, Elaborated, elab, inferred, checked, formed, variables, variable_refs}
 use Rattle.pvs_elab.specs.Declaration.{Declared, Entered, declaration, elab_decl, kind_symbols}
@@ -84,3 +87,10 @@ DeclarationsAreTyped = (s : Lookups) (names : Names) (text : Text) (d : Decl)
     → Holds (λ (e : Entered). Gives e.owed tt) (declaration s names text d)
     × ((x : Declared) → elab_decl s names text d ≡ Ok x → IsDeclared s names text d x)
     × ((f : Fault) → elab_decl s names text d ≡ Err f → declaration s names text d ≡ Err f)
+
+-- In a development the names of a place are what typing knows: what is found as a type is a type, and what is found as a
+-- constant has a type.
+abbrev pub NamesAreTyped : Type 0
+NamesAreTyped = (d : Development) (s : Signature) (i : ℕ) → IsDevelopment d → IsSignatureOver d s → (x : Text) (r : Ref)
+    → ((names_at d s i).type_named x ≡ Ok r → (lookups_of d s).is_type r ≡ true)
+    × ((names_at d s i).constant_named x ≡ Ok r → IsSome ((lookups_of d s).type_of r))

@@ -1,19 +1,19 @@
 -- What is found is a member of the list, of that name and kind, and declared.
-use Rattle.std.proofs.Common.{◌≡◌, ◌⊎◌, inl, inr, ℕ, Bool, true, false, cond, List, [], ◌∷◌, Option, Some, None, Result, Ok, Err, length, refl, ap, sym, subst}
-use Rattle.std.specs.Prelude.{bytes_eq, slice_get, if◌then◌else◌}
+use Rattle.std.proofs.Common.{◌≡◌, ◌⊎◌, inl, inr, ℕ, Bool, true, false, cond, List, [], ◌∷◌, Option, Some, None, Result, Ok, Err, length, refl, ap, sym, subst, ◌∙◌}
+use Rattle.std.specs.Prelude.{bytes_eq, slice_get, option_map, if◌then◌else◌}
 use Rattle.std.specs.List.{filter}
 use Rattle.pvs_base.specs.declared.code.Code.{Code}
 use Rattle.pvs_base.specs.declared.code.Code.TheVariants.{Unknown}
 use Rattle.pvs_terms.specs.Tree.{Text, Ref, Own, Formal, Inst, Trees}
 use Rattle.pvs_terms.proofs.TreeLaws.{both, bytes_eq_equal}
-use Rattle.pvs_sig.specs.Signature.{Signature, Entry, FormalSig}
-use Rattle.pvs_sig.specs.Development.{Development, theory_named, In}
+use Rattle.pvs_sig.specs.Signature.{Signature, Entry, FormalSig, Kind, TypeSig, ConstSig, VarSig, FormulaSig, entry_kind, formal_kind, kind_in, instantiate_kind, instantiate_found}
+use Rattle.pvs_sig.specs.Development.{Development, theory_named, In, kind_of}
 use Rattle.pvs_sig.specs.Scope.{scope}
 use Rattle.pvs_sig.proofs.ScopeLaws.{in_split}
 use Rattle.pvs_sig.specs.Instances.{instances, lists_instance}
 use Rattle.pvs_names.specs.declared.kind.NameKind.{NameKind}
 use Rattle.pvs_names.specs.declared.kind.NameKind.TheVariants.{TypeName, Constant, FormulaName}
-use Rattle.pvs_names.specs.Members.{Member, of_entry, of_formal, entry_in, member_of, members, kind_eq, is_called, the_one, find}
+use Rattle.pvs_names.specs.Members.{Member, name_kind, of_entry, of_formal, entry_in, member_of, members, kind_eq, is_called, the_one, find}
 use Rattle.pvs_names.specs.Resolve.{Qualifier, is_own, is_imported, is_own_entry, is_entry_of, is_entry_at, lists_theory, or_else, visible, own_below, any_formula, plain, where_visible, qualified, resolve}
 
 pub record IsFound (kind : NameKind) (name : Text) (ms : List Member) (r : Ref) : Type 0 where
@@ -91,6 +91,37 @@ in_members d s (r ∷ rs) m h = elim (in_split m (member_of d s r) (members d s 
   | inr b ↦ (let p = in_members d s rs m b in (inr p.0, p.1))
 ]
 
+-- the one member of a list
+member_eq : (m n : Member) → m ∷ [] ≡ n ∷ [] → m.kind ≡ n.kind
+member_eq m n e = let same : m ≡ n = cc in ap (λ (x : Member). x.kind) same
+
+of_entry_kind : (r : Ref) (e : Option Entry) (m : Member) → of_entry r e ≡ m ∷ [] → (k : Kind) × (option_map entry_kind e ≡ Some k) × (name_kind k ≡ m.kind)
+of_entry_kind r None m h = absurd (cc)
+of_entry_kind r (Some e) m h = (e.kind, refl, member_eq _ m h)
+
+of_formal_kind : (r : Ref) (e : Option FormalSig) (m : Member) → of_formal r e ≡ m ∷ [] → (k : Kind) × (option_map formal_kind e ≡ Some k) × (name_kind k ≡ m.kind)
+of_formal_kind r None m h = absurd (cc)
+of_formal_kind r (Some e) m h = (formal_kind e, refl, member_eq _ m h)
+
+instance_kind : (k : Kind) (th : Text) (xs : Trees) → name_kind (instantiate_kind k th xs) ≡ name_kind k
+instance_kind (TypeSig b body) th xs = refl
+instance_kind (ConstSig t body) th xs = refl
+instance_kind (VarSig t) th xs = refl
+instance_kind (FormulaSig c t o) th xs = refl
+
+of_instance_kind : (r : Ref) (th : Text) (n : ℕ) (xs : Trees) (s : Option Signature) (m : Member) → of_entry r (entry_in s n) ≡ m ∷ []
+    → (k : Kind) × (instantiate_found (kind_in s n) th xs ≡ Some k) × (name_kind k ≡ m.kind)
+of_instance_kind r th n xs None m h = absurd (cc)
+of_instance_kind r th n xs (Some s) m h =
+    let k = of_entry_kind r (slice_get s.entries n) m h in
+    (instantiate_kind k.0 th xs, ap (λ o. instantiate_found o th xs) k.1, instance_kind k.0 th xs ∙ k.2)
+
+-- the member of a reference has its kind
+kind_named : (d : Development) (s : Signature) (r : Ref) (m : Member) → member_of d s r ≡ m ∷ [] → (k : Kind) × (kind_of d s r ≡ Some k) × (name_kind k ≡ m.kind)
+kind_named d s (Own n) m h = of_entry_kind (Own n) (slice_get s.entries n) m h
+kind_named d s (Formal n) m h = of_formal_kind (Formal n) (slice_get s.formals n) m h
+kind_named d s (Inst th n xs) m h = of_instance_kind (Inst th n xs) th n xs (theory_named d th) m h
+
 -- what is found among the members of a list of references
 abbrev pub IsNamed : Development → Signature → NameKind → Text → Ref → Type 0
 IsNamed d s kind name r = (m : Member) × (member_of d s r ≡ m ∷ []) × (m.kind ≡ kind) × (m.name ≡ name)
@@ -131,3 +162,9 @@ module _ (d : Development) (s : Signature) (i : ℕ) (kind : NameKind) (name : T
   resolved_is None e = or_else_is (λ x. Is) (plain kind name (visible d s i)) (any_formula d s kind name) r
       (λ p. or_else_is (λ x. Is) (find is_own kind name (visible d s i)) (find is_imported kind name (visible d s i)) r (seen is_own) (seen is_imported) p) (formula_is kind refl) e
   resolved_is (Some q) e = qualified_is q.theory q.actuals e
+
+  pub resolved_kind : (q : Option Qualifier) → resolve d s i kind q name ≡ Ok r → (k : Kind) × (kind_of d s r ≡ Some k) × (name_kind k ≡ kind)
+  resolved_kind q e =
+      let m = (resolved_is q e).1 in
+      let k = kind_named d s r m.0 m.1 in
+      (k.0, k.1, k.2 ∙ m.2)

@@ -1,14 +1,14 @@
 -- Laws of names.
-use Rattle.std.specs.Prelude.{◌≡◌, ◌⊎◌, ℕ, Bool, if◌then◌else◌, Option, List, [], ◌∷◌, ◌++◌, Result, Ok, Err}
+use Rattle.std.specs.Prelude.{◌≡◌, ◌⊎◌, ℕ, Bool, if◌then◌else◌, Option, Some, List, [], ◌∷◌, ◌++◌, Result, Ok, Err}
 use Rattle.pvs_base.specs.declared.code.Code.{Code}
 use Rattle.pvs_base.specs.declared.code.Code.TheVariants.{Unknown, Ambiguous}
 use Rattle.pvs_terms.specs.Tree.{Text, Ref}
-use Rattle.pvs_sig.specs.Signature.{Signature}
-use Rattle.pvs_sig.specs.Development.{Development, In}
+use Rattle.pvs_sig.specs.Signature.{Signature, Kind}
+use Rattle.pvs_sig.specs.Development.{Development, In, kind_of}
 use Rattle.pvs_sig.specs.Scope.{scope}
 use Rattle.pvs_names.specs.declared.kind.NameKind.{NameKind}
 use Rattle.pvs_names.specs.declared.kind.NameKind.TheVariants.{FormulaName}
-use Rattle.pvs_names.specs.Members.{Member, is_called, find, member_of}
+use Rattle.pvs_names.specs.Members.{Member, is_called, find, member_of, name_kind}
 use Rattle.pvs_names.specs.Resolve.{Qualifier, plain, is_own, is_imported, or_else, resolve}
 
 -- what an index keeps for a kind and a name, after one more member of them: nothing, then one, then several
@@ -42,3 +42,8 @@ IsOf r m = m.reference ≡ r
 abbrev pub ResolvedAreNamed : Type 0
 ResolvedAreNamed = (d : Development) (s : Signature) (i : ℕ) (kind : NameKind) (q : Option Qualifier) (name : Text) (r : Ref)
     → resolve d s i kind q name ≡ Ok r → (m : Member) × (member_of d s r ≡ m ∷ []) × (m.kind ≡ kind) × (m.name ≡ name)
+
+-- and it is a thing of that kind
+abbrev pub ResolvedHaveKinds : Type 0
+ResolvedHaveKinds = (d : Development) (s : Signature) (i : ℕ) (kind : NameKind) (q : Option Qualifier) (name : Text) (r : Ref)
+    → resolve d s i kind q name ≡ Ok r → (k : Kind) × (kind_of d s r ≡ Some k) × (name_kind k ≡ kind)
