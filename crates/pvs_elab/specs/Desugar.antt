@@ -4,6 +4,8 @@ use Rattle.std.specs.Prelude.{ℕ, suc, ◌+◌, ◌-◌, ◌*◌, true, false, 
 use Rattle.pvs_base.specs.declared.place.Pos.{Pos}
 use Rattle.pvs_syntax.specs.Words.{spelling}
 use Rattle.pvs_syntax.specs.declared.expression.Expr.{Expr}
+use Rattle.pvs_syntax.specs.declared.expression.LetPart.{LetPart}
+use Rattle.pvs_syntax.specs.declared.expression.NameExpr.{NameExpr}
 use Rattle.pvs_syntax.specs.declared.expression.TypeExpr.{TypeExpr}
 use Rattle.pvs_syntax.specs.declared.expression.Binding.{Binding}
 use Rattle.pvs_syntax.specs.declared.expression.BinderWord.{BinderWord}
@@ -11,7 +13,7 @@ use Rattle.pvs_syntax.specs.declared.expression.BinderWord.TheVariants as binder
 use Rattle.pvs_syntax.specs.declared.expression.InfixWord.{InfixWord}
 use Rattle.pvs_syntax.specs.declared.expression.InfixWord.TheVariants as infix_word
 use Rattle.pvs_syntax.specs.declared.expression.Actual.TheOpen.{Actual-F, Expr-F, TypeExpr-F, Binding-F, InstExpr-F, LetPart-F, NameExpr-F}
-use Rattle.pvs_syntax.specs.declared.expression.Actual.TheFolds.{fold-Binding, fold-Expr, fold-TypeExpr}
+use Rattle.pvs_syntax.specs.declared.expression.Actual.TheFolds.{fold-Binding, fold-Expr, fold-LetPart, fold-NameExpr, fold-TypeExpr}
 use Rattle.pvs_terms.specs.Tree.{Text}
 use Rattle.pvs_elab.specs.Phrase.{Phrase, Name, Truth, Apply, Tuple, Part, Group, Choice, Not, Equal, Iff, All, Lambda, Let, LetAs, TypeOf, Sub, Predicate, Function, Product, Other, place}
 
@@ -152,7 +154,7 @@ name_step text n = plain n.qualifier (spelling text n.word) n.word.pos where
   plain None x pos = Name x pos
   plain (Some first) x pos = Other first
 
--- what an expression, a type and a binding of this text say
+-- what an expression, a type, a binding, a part of a LET and a name of this text say
 abbrev pub phrase : Text → Expr → Phrase
 phrase text = fold-Expr ⊤ Phrase Phrase Bound Pos Value Phrase actual_step (expr_step text) (type_step text) (binding_step text) inst_step (part_step text) (name_step text)
 
@@ -161,3 +163,9 @@ type_phrase text = fold-TypeExpr ⊤ Phrase Phrase Bound Pos Value Phrase actual
 
 abbrev pub bound_of : Text → Binding → Bound
 bound_of text = fold-Binding ⊤ Phrase Phrase Bound Pos Value Phrase actual_step (expr_step text) (type_step text) (binding_step text) inst_step (part_step text) (name_step text)
+
+abbrev pub value_of : Text → LetPart → Value
+value_of text = fold-LetPart ⊤ Phrase Phrase Bound Pos Value Phrase actual_step (expr_step text) (type_step text) (binding_step text) inst_step (part_step text) (name_step text)
+
+abbrev pub name_phrase : Text → NameExpr → Phrase
+name_phrase text = fold-NameExpr ⊤ Phrase Phrase Bound Pos Value Phrase actual_step (expr_step text) (type_step text) (binding_step text) inst_step (part_step text) (name_step text)

@@ -1,5 +1,6 @@
 pub mod Phrase
 pub mod Desugar
+pub mod Surface
 pub mod Answer
 pub mod Names
 pub mod Elab

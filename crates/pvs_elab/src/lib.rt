@@ -7,17 +7,20 @@
 #![tactic(auto)]
 
 ghost use Rattle.pvs_elab.specs.Laws.{ElaborationIsTyped, AnswersAreTyped, FaultsAreMet, DeclarationsAreTyped, NamesAreTyped};
+ghost use Rattle.pvs_elab.specs.Surface.{PhrasesAreByForms};
 
 /// What elaboration promises, for all look-ups, names, phrases and contexts. The call does nothing: its contract states
 /// it.
 ///
 /// What a phrase answers without a fault, typing accepts with the same type. A finished answer has the type, the conditions
 /// and the symbols that typing gives on its tree, and a fault is one that elaboration met: the last call of typing never
-/// refuses. So it is with declarations. The names of a place in a development are known to typing.
+/// refuses. So it is with declarations. The names of a place in a development are known to typing. What a surface tree says
+/// is told form by form.
 pub fn elaboration_is_typed()
     ensures parts { ElaborationIsTyped }
     ensures answers { AnswersAreTyped }
     ensures faults { FaultsAreMet }
     ensures declarations { DeclarationsAreTyped }
     ensures names { NamesAreTyped }
+    ensures forms { PhrasesAreByForms }
 {}
