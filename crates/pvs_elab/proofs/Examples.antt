@@ -1,8 +1,8 @@
 -- Worked examples, by computation, over these declarations; places are columns of a line that is written above each example:
 --   T: TYPE  p: bool  c: T  f: [T -> bool]  x: VAR T  q: [T, T]
 --   S: TYPE = {y: T | f(y)}  d: S  g: [S -> T]  h: [T, T -> bool]  u: VAR bool  t: [T, bool, T]
-use Rattle.std.proofs.Common.{◌≡◌, ℕ, true, false, [], ◌∷◌, List, refl}
-use Rattle.std.specs.Prelude.{Option, Some, None, Ok, codes}
+use Rattle.std.proofs.Common.{◌≡◌, ℕ, zero, suc, true, false, [], ◌∷◌, ◌++◌, List, refl}
+use Rattle.std.specs.Prelude.{Option, Some, None, Ok, codes, ◌+◌}
 use Rattle.pvs_base.specs.declared.place.Pos.{Pos}
 use Rattle.pvs_base.specs.declared.code.Code.TheVariants.{Mismatch, NotFunction, NotTuple, NoSuchPart, NotPredicate, OutOfProfile, Unknown, TooLarge}
 use Rattle.pvs_syntax.specs.declared.expression.BinderWord.TheVariants as binder_word
@@ -20,12 +20,12 @@ use Rattle.pvs_types.specs.Coerce.{coerce}
 use Rattle.pvs_types.specs.Typing.{negation}
 use Rattle.pvs_elab.specs.Answer.{Answer, fault}
 use Rattle.pvs_elab.specs.Names.{Names, names_at}
-use Rattle.pvs_elab.specs.Phrase.{Phrase, Name, Truth, Apply, Part, Group, Choice, Not, Equal, Lambda, Sub, Predicate, Function}
-use Rattle.pvs_elab.specs.Desugar.{Bound, Value, operator, quantified, arguments, tuple_term, lets_term, domain}
+use Rattle.pvs_elab.specs.Phrase.{Phrase, Name, Truth, Apply, Tuple, Part, Group, Choice, Not, Equal, Iff, All, Lambda, Let, LetAs, TypeOf, Sub, Predicate, Function, Product, Other}
+use Rattle.pvs_elab.specs.Desugar.{Bound, Value, operator, quantified, arguments, tuple_term, lets_term, domain, names}
 use Rattle.pvs_elab.specs.Elab.{Here, Elaborated, elab, universal}
 use Rattle.pvs_elab.specs.Elab as elaboration
-use Rattle.pvs_elab.specs.Formula.{formula}
-use Rattle.pvs_elab.specs.Declaration.{existential, constant_decl, formula_decl}
+use Rattle.pvs_elab.specs.Formula.{Formula, formula}
+use Rattle.pvs_elab.specs.Declaration.{Entered, existential, constant_decl, type_definition, formula_decl}
 
 abbrev at : ℕ → Pos
 at n = record { line = 1; col = n }
@@ -584,6 +584,71 @@ too_large = refl
 not_too_large : elaboration.inferred look scope (n (codes "y") 1) (with_y 999999) ≡ is (Var 0) (TSub t (Eq (Var 0) (Var 1000000))) []
 unfolding by_size head up most is_known_nonempty coerce
 not_too_large = refl
+
+-- a function type of this depth but one, and a local name of it
+abbrev deep : ℕ → Tree
+deep zero = TBool
+deep (suc k) = TFun TBool (deep k)
+
+abbrev with_deep : ℕ → Here
+with_deep k = record { locals = record { name = codes "y"; term = Var 0 } ∷ []; context = Variable (deep k) ∷ [] }
+
+-- LAMBDA (z: bool): y: the type is made at the LAMBDA
+too_deep_function : elaboration.inferred look scope (quantified binder_word.Lambda (binding (codes "z") 9 (Some (n (codes "bool") 12)) ∷ []) (n (codes "y") 19) (at 1)) (with_deep 999) ≡ fault (at 1) TooLarge
+unfolding by_size head up most is_known_nonempty coerce
+too_deep_function = refl
+
+-- the same with one level less
+not_too_deep : elaboration.inferred look scope (quantified binder_word.Lambda (binding (codes "z") 9 (Some (n (codes "bool") 12)) ∷ []) (n (codes "y") 19) (at 1)) (with_deep 998) ≡ is (Lam TBool (Var 1)) (deep 999) []
+unfolding by_size head up most is_known_nonempty coerce
+not_too_deep = refl
+
+-- (c, y)
+too_deep_tuple : elaboration.inferred look scope (tuple_term (at 1) (n (codes "c") 2 ∷ n (codes "y") 5 ∷ [])) (with_deep 999) ≡ fault (at 1) TooLarge
+unfolding by_size head up most is_known_nonempty coerce
+too_deep_tuple = refl
+
+-- h(c, y): at the first argument, before the mismatch
+too_deep_arguments : elaboration.inferred look scope (arguments (n (codes "c") 3 ∷ n (codes "y") 6 ∷ []) (n (codes "h") 1)) (with_deep 999) ≡ fault (at 3) TooLarge
+unfolding by_size head up most is_known_nonempty coerce
+too_deep_arguments = refl
+
+-- LET z = y IN p
+too_deep_let : elaboration.inferred look scope (lets_term (at 1) (n (codes "p") 14) (value (codes "z") None (n (codes "y") 9) ∷ [])) (with_deep 999) ≡ fault (at 1) TooLarge
+unfolding by_size head up most is_known_nonempty coerce
+too_deep_let = refl
+
+-- a function on a type that mentions a variable of a high index, which is one higher where a domain is compared
+abbrev with_function : ℕ → Here
+with_function k = record {
+  locals = record { name = codes "y"; term = Var 0 } ∷ [];
+  context = Variable (TFun (TSub t (Eq (Var 0) (Var k))) t) ∷ [];
+}
+
+-- g = y: at the side whose coercion passes the limit
+too_large_side : elaboration.inferred look scope (operator infix_word.Equal (n (codes "g") 1) (n (codes "y") 5)) (with_function 999999) ≡ fault (at 5) TooLarge
+unfolding by_size head up most is_known_nonempty coerce
+too_large_side = refl
+
+-- (y) = g: the right side is coerced to the type of the left one
+too_large_left_side : elaboration.inferred look scope (operator infix_word.Equal (Group (n (codes "y") 2) (at 1)) (n (codes "g") 6)) (with_function 999999) ≡ fault (at 6) TooLarge
+unfolding by_size head up most is_known_nonempty coerce
+too_large_left_side = refl
+
+-- IF p THEN g ELSE y ENDIF: at the branch that is coerced
+too_large_branch : elaboration.inferred look scope (Choice true (n (codes "p") 4) (n (codes "g") 11) (n (codes "y") 18) (at 18) (at 1)) (with_function 999999) ≡ fault (at 18) TooLarge
+unfolding by_size head up most is_known_nonempty coerce
+too_large_branch = refl
+
+-- (y), checked against [S -> T]: at the parenthesis
+too_large_check : elaboration.checked look scope (Group (n (codes "y") 2) (at 1)) (with_function 999999) (TFun s t) ≡ fault (at 1) TooLarge
+unfolding by_size head up most is_known_nonempty coerce
+too_large_check = refl
+
+-- IF c THEN g ELSE y ENDIF: an earlier fault comes first
+too_large_after_condition : elaboration.inferred look scope (Choice true (n (codes "c") 4) (n (codes "g") 11) (n (codes "y") 18) (at 18) (at 1)) (with_function 999999) ≡ fault (at 4) Mismatch
+unfolding by_size head up most is_known_nonempty coerce
+too_large_after_condition = refl
 
 -- ---- Formulas: free VARs are bound in the order of their first occurrence.
 
