@@ -15,10 +15,11 @@ use Rattle.pvs_elab.specs.Answer.{Answer, Judged}
 use Rattle.pvs_elab.specs.Names.{Names}
 use Rattle.pvs_elab.specs.Phrase.{Phrase, Function, place}
 use Rattle.pvs_elab.specs.Desugar.{Bound, bound_of, domain, names, phrase, type_phrase}
-use Rattle.pvs_elab.specs.Elab.{elab, entering}
-use Rattle.pvs_elab.specs.Formula.{Formula, formula, free_variables, occurrences, firsts, under, closed_by, binders_of}
+use Rattle.pvs_elab.specs.Elab.{elab, entering, universal}
+use Rattle.pvs_elab.specs.Formula as free
+use Rattle.pvs_elab.specs.Formula.{formula, free_variables, occurrences, firsts, under, closed_by, closure, binders_of}
 use Rattle.pvs_elab.specs.Declaration.{Entered, Declared, existence, outermost, constant, definition, function, constant_decl, type_definition, formula_decl, body_of, class_of, declaration, decl_place, elab_decl, kind_symbols}
-use Rattle.pvs_elab.specs.Laws.{Gives, Holds, IsDeclared}
+use Rattle.pvs_elab.specs.Laws.{Gives, Holds, IsFormula, IsDeclared}
 use Rattle.pvs_elab.proofs.AnswerLaws.{gives_then, holds_then, holds_weaker, made_then, placed_then}
 use Rattle.pvs_elab.proofs.ElabLaws.{elab_lawful}
 use Rattle.pvs_elab.proofs.FinishedLaws.{finished, finished_fault}
@@ -26,6 +27,10 @@ use Rattle.pvs_elab.proofs.FinishedLaws.{finished, finished_fault}
 anything : {A : Type 0} (r : Answer A) → Holds (λ a. Unit {0}) r
 anything (Ok a) = tt
 anything (Err f) = tt
+
+closed_is : (pos : Pos) (bs : List free.Bound) (t : Tree) → Holds (λ u. u ≡ closure bs t) (closed_by pos bs t)
+closed_is pos [] t = refl
+closed_is pos (b ∷ bs) t = made_then (λ u. u ≡ closure (b ∷ bs) t) pos (universal b.ty t) (closed_by pos bs) (λ w. closed_is pos bs (universal b.ty t))
 
 abbrev pub IsAcceptedEntry : Entered → Type 0
 IsAcceptedEntry e = Gives e.owed tt
@@ -61,18 +66,14 @@ module _ (s : Lookups) (scope : Names) where
   type_definition_typed a kind =
       holds_then (λ t. Gives (well_formed s [] t) tt) IsAcceptedEntry ((elab s scope a).formed outermost) _ ((elab_lawful s scope a).formed outermost) (λ t gt. gt)
 
-  abbrev IsTypedFormula : Formula → Type 0
-  IsTypedFormula f = Gives (check s (binders_of f.variables) f.open_tree TBool) tt
-
-  formula_typed : (e : Phrase) → Holds IsTypedFormula (formula s scope e)
-  formula_typed e =
-      holds_then (λ bs. Unit {0}) IsTypedFormula (free_variables scope (firsts [] (occurrences scope true [] e))) _ (anything _) (λ vs u.
+  pub formula_typed : (e : Phrase) → Holds (IsFormula s) (formula s scope e)
+  formula_typed e = holds_then (λ bs. Unit {0}) (IsFormula s) (free_variables scope (firsts [] (occurrences scope true [] e))) _ (anything _) (λ vs u.
       let bs = reverse vs in
-      holds_then (λ t. Gives (check s (binders_of bs) t TBool) tt) IsTypedFormula ((elab s scope e).check (under bs) (place e) TBool) _ ((elab_lawful s scope e).check (under bs) (place e) TBool) (λ t gt.
-      holds_then (λ t. Unit {0}) IsTypedFormula (closed_by (place e) bs t) _ (anything _) (λ c v. gt)))
+      holds_then (λ t. Gives (check s (binders_of bs) t TBool) tt) (IsFormula s) ((elab s scope e).check (under bs) (place e) TBool) _ ((elab_lawful s scope e).check (under bs) (place e) TBool) (λ t gt.
+      holds_then (λ t2. t2 ≡ closure bs t) (IsFormula s) (closed_by (place e) bs t) _ (closed_is (place e) bs t) (λ c gc. record { typed = gt; closed = gc })))
 
   formula_decl_typed : (c : Class) (e : Phrase) → Holds IsAcceptedEntry (formula_decl s scope c e)
-  formula_decl_typed c e = holds_then IsTypedFormula IsAcceptedEntry (formula s scope e) _ (formula_typed e) (λ f gf. gf)
+  formula_decl_typed c e = holds_then (IsFormula s) IsAcceptedEntry (formula s scope e) _ (formula_typed e) (λ f gf. gf.typed)
 
   pub declaration_typed : (text : Text) (d : Decl) → Holds IsAcceptedEntry (declaration s scope text d)
   declaration_typed text (decl.Importing i) = tt

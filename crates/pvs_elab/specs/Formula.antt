@@ -83,6 +83,11 @@ closed_by pos (b ∷ bs) t = do
   u ← made pos (universal b.ty t)
   closed_by pos bs u
 
+-- FORALL over these variables, the innermost first
+abbrev pub closure : List Bound → Tree → Tree
+closure [] t = t
+closure (b ∷ bs) t = closure bs (universal b.ty t)
+
 -- A formula: its free VARs, the innermost first, its tree under them, and the closed tree.
 pub record Formula : Type 0 where
   pub variables : List Bound

@@ -2,7 +2,7 @@
 use Rattle.std.specs.Prelude.{◌≡◌, ℕ, true, List, ◌++◌, Some, None, IsSome, Ok, Err}
 use Rattle.pvs_base.specs.declared.place.Pos.{Pos}
 use Rattle.pvs_base.specs.declared.code.Fault.{Fault}
-use Rattle.pvs_terms.specs.Tree.{Text, Tree, Ref}
+use Rattle.pvs_terms.specs.Tree.{Text, Tree, Ref, TBool}
 use Rattle.pvs_syntax.specs.declared.unit.Decl.{Decl}
 use Rattle.pvs_sig.specs.Signature.{Signature}
 use Rattle.pvs_sig.specs.Development.{Development, IsDevelopment, IsSignatureOver}
@@ -16,6 +16,7 @@ use Rattle.pvs_elab.specs.Answer.{Answer}
 use Rattle.pvs_elab.specs.Names.{Names, names_at}
 use Rattle.pvs_elab.specs.Phrase.{Phrase}
 use Rattle.pvs_elab.specs.Elab.{Here, Elab, Elaborated, elab, inferred, checked, formed, variables, variable_refs}
+use Rattle.pvs_elab.specs.Formula.{Formula, formula, binders_of, closure}
 use Rattle.pvs_elab.specs.Declaration.{Declared, Entered, declaration, elab_decl, kind_symbols}
 
 -- typing accepts, with this result and some conditions
@@ -87,6 +88,14 @@ DeclarationsAreTyped = (s : Lookups) (names : Names) (text : Text) (d : Decl)
     → Holds (λ (e : Entered). Gives e.owed tt) (declaration s names text d)
     × ((x : Declared) → elab_decl s names text d ≡ Ok x → IsDeclared s names text d x)
     × ((f : Fault) → elab_decl s names text d ≡ Err f → declaration s names text d ≡ Err f)
+
+-- a formula is a truth value under its free VARs, and its tree is its closure over them
+pub record IsFormula (s : Lookups) (f : Formula) : Type 0 where
+  pub typed : Gives (check s (binders_of f.variables) f.open_tree TBool) tt
+  pub closed : f.tree ≡ closure f.variables f.open_tree
+
+abbrev pub FormulasAreTyped : Type 0
+FormulasAreTyped = (s : Lookups) (names : Names) (e : Phrase) → Holds (IsFormula s) (formula s names e)
 
 -- In a development the names of a place are what typing knows: what is found as a type is a type, and what is found as a
 -- constant has a type.
