@@ -9,7 +9,7 @@ use Rattle.pvs_terms.specs.Tree.{Tree, Ref}
 use Rattle.pvs_types.specs.Limits.{is_within_limits}
 use Rattle.pvs_types.specs.Outcome.{Outcome, Refused, Accepted, Conditions, outcome_after, within_limits}
 use Rattle.pvs_types.specs.Outcome as outcome
-use Rattle.pvs_elab.specs.Answer.{Answer, made, placed_at, placed_part, searched, known}
+use Rattle.pvs_elab.specs.Answer.{Answer, within_limits_at, from_outcome_at, from_part, from_text_or_outcome, from_name}
 use Rattle.pvs_elab.specs.Laws.{Gives, Holds}
 
 pub gives_after : {A : Type 0} (cs : Conditions) (rs : List Ref) (o : Outcome A) (a : A) → Gives o a → Gives (outcome_after cs rs o) a
@@ -36,37 +36,37 @@ if_then Q true at t f e k = k refl
 if_then Q false at t f e k = tt
 
 -- a tree that is made is within the limits
-pub made_then : {A : Type 0} (Q : A → Type 0) (at : Pos) (t : Tree) (f : Tree → Answer A) → (is_within_limits t ≡ true → Holds Q (f t)) → Holds Q (made at t >>= f)
-made_then Q at t f k = if_then Q (is_within_limits t) at t f _ k
+pub within_limits_then : {A : Type 0} (Q : A → Type 0) (at : Pos) (t : Tree) (f : Tree → Answer A) → (is_within_limits t ≡ true → Holds Q (f t)) → Holds Q (within_limits_at at t >>= f)
+within_limits_then Q at t f k = if_then Q (is_within_limits t) at t f _ k
 
-made_if : (Q : Tree → Type 0) (b : Bool) (at : Pos) (t : Tree) (e : Code) → Q t → Holds Q (if b then Ok t else Err (record { pos = at; code = e }))
-made_if Q true at t e k = k
-made_if Q false at t e k = tt
+within_limits_if : (Q : Tree → Type 0) (b : Bool) (at : Pos) (t : Tree) (e : Code) → Q t → Holds Q (if b then Ok t else Err (record { pos = at; code = e }))
+within_limits_if Q true at t e k = k
+within_limits_if Q false at t e k = tt
 
-pub made_last : (Q : Tree → Type 0) (at : Pos) (t : Tree) → Q t → Holds Q (made at t)
-made_last Q at t k = made_if Q (is_within_limits t) at t _ k
+pub within_limits_last : (Q : Tree → Type 0) (at : Pos) (t : Tree) → Q t → Holds Q (within_limits_at at t)
+within_limits_last Q at t k = within_limits_if Q (is_within_limits t) at t _ k
 
-pub placed_then : {A B : Type 0} (Q : B → Type 0) (large at : Pos) (o : Outcome A) (f : A → Answer B) → ((a : A) → Gives o a → Holds Q (f a)) → Holds Q (placed_at large at o >>= f)
-placed_then Q large at (Refused c) f k = tt
-placed_then Q large at (Accepted a cs rs) f k = k a refl
+pub outcome_then : {A B : Type 0} (Q : B → Type 0) (large at : Pos) (o : Outcome A) (f : A → Answer B) → ((a : A) → Gives o a → Holds Q (f a)) → Holds Q (from_outcome_at large at o >>= f)
+outcome_then Q large at (Refused c) f k = tt
+outcome_then Q large at (Accepted a cs rs) f k = k a refl
 
-pub placed_last : {A : Type 0} (Q : A → Type 0) (large at : Pos) (o : Outcome A) → ((a : A) → Gives o a → Q a) → Holds Q (placed_at large at o)
-placed_last Q large at (Refused c) k = tt
-placed_last Q large at (Accepted a cs rs) k = k a refl
+pub outcome_last : {A : Type 0} (Q : A → Type 0) (large at : Pos) (o : Outcome A) → ((a : A) → Gives o a → Q a) → Holds Q (from_outcome_at large at o)
+outcome_last Q large at (Refused c) k = tt
+outcome_last Q large at (Accepted a cs rs) k = k a refl
 
-pub part_then : {A B : Type 0} (Q : B → Type 0) (number at : Pos) (o : Outcome A) (f : A → Answer B) → ((a : A) → Gives o a → Holds Q (f a)) → Holds Q (placed_part number at o >>= f)
+pub part_then : {A B : Type 0} (Q : B → Type 0) (number at : Pos) (o : Outcome A) (f : A → Answer B) → ((a : A) → Gives o a → Holds Q (f a)) → Holds Q (from_part number at o >>= f)
 part_then Q number at (Refused c) f k = tt
 part_then Q number at (Accepted a cs rs) f k = k a refl
 
-pub searched_then : {A B C : Type 0} (Q : C → Type 0) (r : Answer A) (at : Pos) (o : Outcome B) (f : B → Answer C) → ((b : B) → Gives o b → Holds Q (f b)) → Holds Q (searched r at o >>= f)
-searched_then Q (Ok a) at (Refused c) f k = tt
-searched_then Q (Err e) at (Refused c) f k = tt
-searched_then Q (Ok a) at (Accepted b cs rs) f k = k b refl
-searched_then Q (Err e) at (Accepted b cs rs) f k = k b refl
+pub text_or_outcome_then : {A B C : Type 0} (Q : C → Type 0) (r : Answer A) (at : Pos) (o : Outcome B) (f : B → Answer C) → ((b : B) → Gives o b → Holds Q (f b)) → Holds Q (from_text_or_outcome r at o >>= f)
+text_or_outcome_then Q (Ok a) at (Refused c) f k = tt
+text_or_outcome_then Q (Err e) at (Refused c) f k = tt
+text_or_outcome_then Q (Ok a) at (Accepted b cs rs) f k = k b refl
+text_or_outcome_then Q (Err e) at (Accepted b cs rs) f k = k b refl
 
-pub known_then : {A B : Type 0} (Q : B → Type 0) (at : Pos) (r : Result A Code) (f : A → Answer B) → ((a : A) → Holds Q (f a)) → Holds Q (known at r >>= f)
-known_then Q at (Ok a) f k = k a
-known_then Q at (Err c) f k = tt
+pub name_then : {A B : Type 0} (Q : B → Type 0) (at : Pos) (r : Result A Code) (f : A → Answer B) → ((a : A) → Holds Q (f a)) → Holds Q (from_name at r >>= f)
+name_then Q at (Ok a) f k = k a
+name_then Q at (Err c) f k = tt
 
 pub holds_weaker : {A : Type 0} (P Q : A → Type 0) (r : Answer A) → Holds P r → ((a : A) → P a → Q a) → Holds Q r
 holds_weaker P Q (Ok a) p k = k a p

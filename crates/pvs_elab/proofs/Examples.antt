@@ -1,8 +1,8 @@
 -- Worked examples, by computation, over these declarations; places are columns of a line that is written above each example:
 --   T: TYPE  p: bool  c: T  f: [T -> bool]  x: VAR T  q: [T, T]
 --   S: TYPE = {y: T | f(y)}  d: S  g: [S -> T]  h: [T, T -> bool]  u: VAR bool  t: [T, bool, T]
-use Rattle.std.proofs.Common.{◌≡◌, ℕ, zero, suc, true, false, [], ◌∷◌, ◌++◌, List, refl}
-use Rattle.std.specs.Prelude.{Option, Some, None, Ok, codes, ◌+◌}
+use Rattle.std.proofs.Common.{◌≡◌, ℕ, zero, suc, true, false, [], ◌∷◌, List, refl}
+use Rattle.std.specs.Prelude.{Option, Some, None, Ok, codes}
 use Rattle.pvs_base.specs.declared.place.Pos.{Pos}
 use Rattle.pvs_base.specs.declared.code.Code.TheVariants.{Mismatch, NotFunction, NotTuple, NoSuchPart, NotPredicate, OutOfProfile, Unknown, TooLarge}
 use Rattle.pvs_syntax.specs.declared.expression.BinderWord.TheVariants as binder_word
@@ -20,12 +20,12 @@ use Rattle.pvs_types.specs.Coerce.{coerce}
 use Rattle.pvs_types.specs.Typing.{negation}
 use Rattle.pvs_elab.specs.Answer.{Answer, fault}
 use Rattle.pvs_elab.specs.Names.{Names, names_at}
-use Rattle.pvs_elab.specs.Phrase.{Phrase, Name, Truth, Apply, Tuple, Part, Group, Choice, Not, Equal, Iff, All, Lambda, Let, LetAs, TypeOf, Sub, Predicate, Function, Product, Other}
-use Rattle.pvs_elab.specs.Desugar.{Bound, Value, operator, quantified, arguments, tuple_term, lets_term, domain, names}
+use Rattle.pvs_elab.specs.Phrase.{Phrase, Name, Truth, Apply, Part, Group, Choice, Not, Equal, Lambda, Sub, Predicate, Function}
+use Rattle.pvs_elab.specs.Desugar.{Bound, Value, operator, quantified, arguments, tuple_term, lets_term, domain}
 use Rattle.pvs_elab.specs.Elab.{Here, Elaborated, elab, universal}
 use Rattle.pvs_elab.specs.Elab as elaboration
-use Rattle.pvs_elab.specs.Formula.{Formula, formula}
-use Rattle.pvs_elab.specs.Declaration.{Entered, existential, constant_decl, type_definition, formula_decl}
+use Rattle.pvs_elab.specs.Formula.{formula}
+use Rattle.pvs_elab.specs.Declaration.{existential, constant_decl, formula_decl}
 
 abbrev at : ℕ → Pos
 at n = record { line = 1; col = n }
@@ -80,13 +80,13 @@ abbrev empty : Here
 empty = record { locals = []; context = [] }
 
 abbrev inferred : Phrase → Answer Elaborated
-inferred e = elaboration.inferred look scope e empty
+inferred e = elaboration.inferred_term look scope e empty
 
 abbrev checked : Phrase → Tree → Answer Elaborated
-checked e a = elaboration.checked look scope e empty a
+checked e a = elaboration.checked_term look scope e empty a
 
 abbrev formed : Phrase → Answer Elaborated
-formed e = elaboration.formed look scope e empty
+formed e = elaboration.well_formed_type look scope e empty
 
 -- an answer without conditions; one with them
 abbrev is : Tree → Tree → List Ref → Answer Elaborated
@@ -576,12 +576,12 @@ with_y k = record {
 }
 
 -- NOT c = y
-too_large : elaboration.inferred look scope (Not (Equal (n (codes "c") 5) (n (codes "y") 9)) (at 1)) (with_y 1000000) ≡ fault (at 9) TooLarge
+too_large : elaboration.inferred_term look scope (Not (Equal (n (codes "c") 5) (n (codes "y") 9)) (at 1)) (with_y 1000000) ≡ fault (at 9) TooLarge
 unfolding by_size head up most is_known_nonempty coerce
 too_large = refl
 
 -- y
-not_too_large : elaboration.inferred look scope (n (codes "y") 1) (with_y 999999) ≡ is (Var 0) (TSub t (Eq (Var 0) (Var 1000000))) []
+not_too_large : elaboration.inferred_term look scope (n (codes "y") 1) (with_y 999999) ≡ is (Var 0) (TSub t (Eq (Var 0) (Var 1000000))) []
 unfolding by_size head up most is_known_nonempty coerce
 not_too_large = refl
 
@@ -594,27 +594,27 @@ abbrev with_deep : ℕ → Here
 with_deep k = record { locals = record { name = codes "y"; term = Var 0 } ∷ []; context = Variable (deep k) ∷ [] }
 
 -- LAMBDA (z: bool): y: the type is made at the LAMBDA
-too_deep_function : elaboration.inferred look scope (quantified binder_word.Lambda (binding (codes "z") 9 (Some (n (codes "bool") 12)) ∷ []) (n (codes "y") 19) (at 1)) (with_deep 999) ≡ fault (at 1) TooLarge
+too_deep_function : elaboration.inferred_term look scope (quantified binder_word.Lambda (binding (codes "z") 9 (Some (n (codes "bool") 12)) ∷ []) (n (codes "y") 19) (at 1)) (with_deep 999) ≡ fault (at 1) TooLarge
 unfolding by_size head up most is_known_nonempty coerce
 too_deep_function = refl
 
 -- the same with one level less
-not_too_deep : elaboration.inferred look scope (quantified binder_word.Lambda (binding (codes "z") 9 (Some (n (codes "bool") 12)) ∷ []) (n (codes "y") 19) (at 1)) (with_deep 998) ≡ is (Lam TBool (Var 1)) (deep 999) []
+not_too_deep : elaboration.inferred_term look scope (quantified binder_word.Lambda (binding (codes "z") 9 (Some (n (codes "bool") 12)) ∷ []) (n (codes "y") 19) (at 1)) (with_deep 998) ≡ is (Lam TBool (Var 1)) (deep 999) []
 unfolding by_size head up most is_known_nonempty coerce
 not_too_deep = refl
 
 -- (c, y)
-too_deep_tuple : elaboration.inferred look scope (tuple_term (at 1) (n (codes "c") 2 ∷ n (codes "y") 5 ∷ [])) (with_deep 999) ≡ fault (at 1) TooLarge
+too_deep_tuple : elaboration.inferred_term look scope (tuple_term (at 1) (n (codes "c") 2 ∷ n (codes "y") 5 ∷ [])) (with_deep 999) ≡ fault (at 1) TooLarge
 unfolding by_size head up most is_known_nonempty coerce
 too_deep_tuple = refl
 
 -- h(c, y): at the first argument, before the mismatch
-too_deep_arguments : elaboration.inferred look scope (arguments (n (codes "c") 3 ∷ n (codes "y") 6 ∷ []) (n (codes "h") 1)) (with_deep 999) ≡ fault (at 3) TooLarge
+too_deep_arguments : elaboration.inferred_term look scope (arguments (n (codes "c") 3 ∷ n (codes "y") 6 ∷ []) (n (codes "h") 1)) (with_deep 999) ≡ fault (at 3) TooLarge
 unfolding by_size head up most is_known_nonempty coerce
 too_deep_arguments = refl
 
 -- LET z = y IN p
-too_deep_let : elaboration.inferred look scope (lets_term (at 1) (n (codes "p") 14) (value (codes "z") None (n (codes "y") 9) ∷ [])) (with_deep 999) ≡ fault (at 1) TooLarge
+too_deep_let : elaboration.inferred_term look scope (lets_term (at 1) (n (codes "p") 14) (value (codes "z") None (n (codes "y") 9) ∷ [])) (with_deep 999) ≡ fault (at 1) TooLarge
 unfolding by_size head up most is_known_nonempty coerce
 too_deep_let = refl
 
@@ -626,27 +626,27 @@ with_function k = record {
 }
 
 -- g = y: at the side whose coercion passes the limit
-too_large_side : elaboration.inferred look scope (operator infix_word.Equal (n (codes "g") 1) (n (codes "y") 5)) (with_function 999999) ≡ fault (at 5) TooLarge
+too_large_side : elaboration.inferred_term look scope (operator infix_word.Equal (n (codes "g") 1) (n (codes "y") 5)) (with_function 999999) ≡ fault (at 5) TooLarge
 unfolding by_size head up most is_known_nonempty coerce
 too_large_side = refl
 
 -- (y) = g: the right side is coerced to the type of the left one
-too_large_left_side : elaboration.inferred look scope (operator infix_word.Equal (Group (n (codes "y") 2) (at 1)) (n (codes "g") 6)) (with_function 999999) ≡ fault (at 6) TooLarge
+too_large_left_side : elaboration.inferred_term look scope (operator infix_word.Equal (Group (n (codes "y") 2) (at 1)) (n (codes "g") 6)) (with_function 999999) ≡ fault (at 6) TooLarge
 unfolding by_size head up most is_known_nonempty coerce
 too_large_left_side = refl
 
 -- IF p THEN g ELSE y ENDIF: at the branch that is coerced
-too_large_branch : elaboration.inferred look scope (Choice true (n (codes "p") 4) (n (codes "g") 11) (n (codes "y") 18) (at 18) (at 1)) (with_function 999999) ≡ fault (at 18) TooLarge
+too_large_branch : elaboration.inferred_term look scope (Choice true (n (codes "p") 4) (n (codes "g") 11) (n (codes "y") 18) (at 18) (at 1)) (with_function 999999) ≡ fault (at 18) TooLarge
 unfolding by_size head up most is_known_nonempty coerce
 too_large_branch = refl
 
 -- (y), checked against [S -> T]: at the parenthesis
-too_large_check : elaboration.checked look scope (Group (n (codes "y") 2) (at 1)) (with_function 999999) (TFun s t) ≡ fault (at 1) TooLarge
+too_large_check : elaboration.checked_term look scope (Group (n (codes "y") 2) (at 1)) (with_function 999999) (TFun s t) ≡ fault (at 1) TooLarge
 unfolding by_size head up most is_known_nonempty coerce
 too_large_check = refl
 
 -- IF c THEN g ELSE y ENDIF: an earlier fault comes first
-too_large_after_condition : elaboration.inferred look scope (Choice true (n (codes "c") 4) (n (codes "g") 11) (n (codes "y") 18) (at 18) (at 1)) (with_function 999999) ≡ fault (at 4) Mismatch
+too_large_after_condition : elaboration.inferred_term look scope (Choice true (n (codes "c") 4) (n (codes "g") 11) (n (codes "y") 18) (at 18) (at 1)) (with_function 999999) ≡ fault (at 4) Mismatch
 unfolding by_size head up most is_known_nonempty coerce
 too_large_after_condition = refl
 
@@ -680,17 +680,17 @@ no_formula = refl
 -- ---- Declarations.
 
 -- k: bool: known to have a member
-undefined_constant : constant_decl look scope [] (n (codes "bool") 4) None ≡ Ok (record { kind = ConstSig TBool None; owed = accepted [] []; variables = [] })
+undefined_constant : constant_decl look scope [] (n (codes "bool") 4) None ≡ Ok (record { kind = ConstSig TBool None; typing = accepted [] []; variables = [] })
 unfolding by_size head up most is_known_nonempty coerce
 undefined_constant = refl
 
 -- k: T: owes that T has a member
-constant_of_subtype : constant_decl look scope [] (n (codes "T") 4) None ≡ Ok (record { kind = ConstSig t None; owed = accepted (owed [] (existential t) ∷ []) (Own 0 ∷ []); variables = [] })
+constant_of_subtype : constant_decl look scope [] (n (codes "T") 4) None ≡ Ok (record { kind = ConstSig t None; typing = accepted (owed [] (existential t) ∷ []) (Own 0 ∷ []); variables = [] })
 unfolding by_size head up most is_known_nonempty coerce
 constant_of_subtype = refl
 
 -- k: S = c: owes f(c)
-defined_constant : constant_decl look scope [] (n (codes "S") 4) (Some (n (codes "c") 8)) ≡ Ok (record { kind = ConstSig s (Some c); owed = accepted (owed [] (f c) ∷ []) (Own 6 ∷ Own 2 ∷ []); variables = [] })
+defined_constant : constant_decl look scope [] (n (codes "S") 4) (Some (n (codes "c") 8)) ≡ Ok (record { kind = ConstSig s (Some c); typing = accepted (owed [] (f c) ∷ []) (Own 6 ∷ Own 2 ∷ []); variables = [] })
 unfolding by_size head up most is_known_nonempty coerce
 defined_constant = refl
 
@@ -700,17 +700,17 @@ unfolding by_size head up most is_known_nonempty coerce
 defined_mismatch = refl
 
 -- k(x): S = x: the VAR gives the type of the parameter; owes f(x)
-function : constant_decl look scope (binding (codes "x") 3 None ∷ []) (n (codes "S") 7) (Some (n (codes "x") 11)) ≡ Ok (record { kind = ConstSig (TFun t s) (Some (Lam t (Var 0))); owed = accepted (owed (Variable t ∷ []) (f (Var 0)) ∷ []) (Own 0 ∷ Own 6 ∷ []); variables = Own 4 ∷ [] })
+function : constant_decl look scope (binding (codes "x") 3 None ∷ []) (n (codes "S") 7) (Some (n (codes "x") 11)) ≡ Ok (record { kind = ConstSig (TFun t s) (Some (Lam t (Var 0))); typing = accepted (owed (Variable t ∷ []) (f (Var 0)) ∷ []) (Own 0 ∷ Own 6 ∷ []); variables = Own 4 ∷ [] })
 unfolding by_size head up most is_known_nonempty coerce
 function = refl
 
 -- k(y, z: T): bool = y = z
-function_of_two : constant_decl look scope (binding (codes "y") 3 None ∷ binding (codes "z") 6 (Some (n (codes "T") 9)) ∷ []) (n (codes "bool") 13) (Some (Equal (n (codes "y") 20) (n (codes "z") 24))) ≡ Ok (record { kind = ConstSig (TFun (TPair 2 t t) TBool) (Some (Lam (TPair 2 t t) (Eq (Fst 2 (Var 0)) (Snd 2 (Var 0))))); owed = accepted [] (Own 0 ∷ Own 0 ∷ []); variables = [] })
+function_of_two : constant_decl look scope (binding (codes "y") 3 None ∷ binding (codes "z") 6 (Some (n (codes "T") 9)) ∷ []) (n (codes "bool") 13) (Some (Equal (n (codes "y") 20) (n (codes "z") 24))) ≡ Ok (record { kind = ConstSig (TFun (TPair 2 t t) TBool) (Some (Lam (TPair 2 t t) (Eq (Fst 2 (Var 0)) (Snd 2 (Var 0))))); typing = accepted [] (Own 0 ∷ Own 0 ∷ []); variables = [] })
 unfolding by_size head up most is_known_nonempty coerce
 function_of_two = refl
 
 -- k(y: T): T: owes that [T -> T] has a member
-undefined_function : constant_decl look scope (binding (codes "y") 3 (Some (n (codes "T") 6)) ∷ []) (n (codes "T") 10) None ≡ Ok (record { kind = ConstSig (TFun t t) None; owed = accepted (owed [] (existential (TFun t t)) ∷ []) (Own 0 ∷ Own 0 ∷ []); variables = [] })
+undefined_function : constant_decl look scope (binding (codes "y") 3 (Some (n (codes "T") 6)) ∷ []) (n (codes "T") 10) None ≡ Ok (record { kind = ConstSig (TFun t t) None; typing = accepted (owed [] (existential (TFun t t)) ∷ []) (Own 0 ∷ Own 0 ∷ []); variables = [] })
 unfolding by_size head up most is_known_nonempty coerce
 undefined_function = refl
 
@@ -720,6 +720,6 @@ unfolding by_size head up most is_known_nonempty coerce
 free_in_definition = refl
 
 -- k: LEMMA f(g(x))
-formula_declared : formula_decl look scope class.Lemma (Apply (n (codes "f") 10) (Apply (n (codes "g") 12) (n (codes "x") 14))) ≡ Ok (record { kind = FormulaSig class.Lemma (universal t (f (App (Const (Own 8)) (Var 0)))) 0; owed = accepted (owed (Variable t ∷ []) (f (Var 0)) ∷ []) (Own 3 ∷ Own 8 ∷ []); variables = Own 4 ∷ [] })
+formula_declared : formula_decl look scope class.Lemma (Apply (n (codes "f") 10) (Apply (n (codes "g") 12) (n (codes "x") 14))) ≡ Ok (record { kind = FormulaSig class.Lemma (universal t (f (App (Const (Own 8)) (Var 0)))) 0; typing = accepted (owed (Variable t ∷ []) (f (Var 0)) ∷ []) (Own 3 ∷ Own 8 ∷ []); variables = Own 4 ∷ [] })
 unfolding by_size head up most is_known_nonempty coerce
 formula_declared = refl

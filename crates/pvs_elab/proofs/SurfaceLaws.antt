@@ -10,7 +10,7 @@ use Rattle.pvs_syntax.specs.declared.expression.Binding.{Binding, roll-Binding}
 use Rattle.pvs_syntax.specs.declared.expression.Expr.{Expr}
 use Rattle.pvs_syntax.specs.declared.expression.Expr.TheVariants as expr
 use Rattle.pvs_syntax.specs.declared.expression.InfixWord.{InfixWord}
-use Rattle.pvs_syntax.specs.declared.expression.InstExpr.{InstExpr, roll-InstExpr}
+use Rattle.pvs_syntax.specs.declared.expression.InstExpr.{roll-InstExpr}
 use Rattle.pvs_syntax.specs.declared.expression.LetPart.{LetPart, roll-LetPart}
 use Rattle.pvs_syntax.specs.declared.expression.NameExpr.{NameExpr, roll-NameExpr}
 use Rattle.pvs_syntax.specs.declared.expression.TypeExpr.{TypeExpr}

@@ -20,11 +20,11 @@ use Rattle.pvs_types.specs.Outcome as outcome
 use Rattle.pvs_types.specs.Forms.{is_known_nonempty}
 use Rattle.pvs_types.specs.Typing.{negation, check, well_formed}
 use Rattle.pvs_types.specs.Symbols.{symbols}
-use Rattle.pvs_elab.specs.Answer.{Answer, ◌>>◌, pure, fault, made, placed, judged}
+use Rattle.pvs_elab.specs.Answer.{Answer, ◌>>◌, pure, fault, within_limits_at, from_outcome, judgement_at}
 use Rattle.pvs_elab.specs.Names.{Names}
 use Rattle.pvs_elab.specs.Phrase.{Phrase, Function, place}
 use Rattle.pvs_elab.specs.Desugar.{Bound, bound_of, domain, names, phrase, type_phrase}
-use Rattle.pvs_elab.specs.Elab.{Here, elab, entering, universal, variables, variable_refs}
+use Rattle.pvs_elab.specs.Elab.{Here, elab, under_variable, universal, variables, variable_refs}
 use Rattle.pvs_elab.specs.Formula as free
 use Rattle.pvs_elab.specs.Formula.{Formula, formula, binders_of}
 
@@ -33,9 +33,9 @@ abbrev pub existential : Tree → Tree
 existential a = negation (universal a (negation True))
 
 -- A declared entry: what it is, what typing says of its trees, where the conditions are, and the VARs that gave types.
-pub record Entered : Type 0 where
+pub record CheckedEntry : Type 0 where
   pub kind : Kind
-  pub owed : Outcome (Unit {0})
+  pub typing : Outcome (Unit {0})
   pub variables : List Ref
 
 -- the symbols of the trees of an entry
@@ -55,8 +55,8 @@ class_of formula_word.Assumption = class.Assumption
 class_of formula_word.Lemma = class.Lemma
 
 -- a declaration stands under no binder
-abbrev pub outermost : Here
-outermost = record { locals = []; context = [] }
+abbrev pub top_level : Here
+top_level = record { locals = []; context = [] }
 
 -- that a type has a member, unless it is known to have one
 abbrev pub existence_if : Tree → Bool → Outcome (Unit {0})
@@ -67,53 +67,53 @@ abbrev pub existence : Lookups → Tree → Outcome (Unit {0})
 existence s a = outcome.◌>>=◌ (from_result (is_known_nonempty s a)) (existence_if a)
 
 -- a constant without a definition: the type, its place, and the place of its condition
-abbrev pub constant : Lookups → Names → Phrase → Pos → Answer Entered
+abbrev pub constant : Lookups → Names → Phrase → Pos → Answer CheckedEntry
 constant s scope a pos = do
-  t ← (elab s scope a).formed outermost
-  placed pos (existence s t)
-  pure (record { kind = ConstSig t None; owed = outcome.◌>>◌ (well_formed s [] t) (existence s t); variables = variable_refs scope (variables a) })
+  t ← (elab s scope a).formed top_level
+  from_outcome pos (existence s t)
+  pure (record { kind = ConstSig t None; typing = outcome.◌>>◌ (well_formed s [] t) (existence s t); variables = variable_refs scope (variables a) })
 
 -- with one
-abbrev pub definition : Lookups → Names → Phrase → Phrase → Answer Entered
+abbrev pub definition : Lookups → Names → Phrase → Phrase → Answer CheckedEntry
 definition s scope a e = do
-  t ← (elab s scope a).formed outermost
-  b ← (elab s scope e).check outermost (place e) t
-  pure (record { kind = ConstSig t (Some b); owed = outcome.◌>>◌ (well_formed s [] t) (check s [] b t); variables = variable_refs scope (variables a ++ variables e) })
+  t ← (elab s scope a).formed top_level
+  b ← (elab s scope e).check top_level (place e) t
+  pure (record { kind = ConstSig t (Some b); typing = outcome.◌>>◌ (well_formed s [] t) (check s [] b t); variables = variable_refs scope (variables a ++ variables e) })
 
 -- with parameters and a definition: the type of the parameters and its place, their names, the type and the definition
-abbrev pub function : Lookups → Names → Phrase → Pos → List Text → Phrase → Phrase → Answer Entered
+abbrev pub function : Lookups → Names → Phrase → Pos → List Text → Phrase → Phrase → Answer CheckedEntry
 function s scope d pos xs a e = do
-  c ← (elab s scope d).formed outermost
-  t ← (elab s scope a).formed (entering xs c outermost)
-  u ← made pos (TFun c t)
-  b ← (elab s scope e).check (entering xs c outermost) (place e) t
-  f ← made (place e) (Lam c b)
-  pure (record { kind = ConstSig u (Some f); owed = outcome.◌>>◌ (well_formed s [] u) (check s (Variable c ∷ []) b t); variables = variable_refs scope (variables d ++ (variables a ++ variables e)) })
+  c ← (elab s scope d).formed top_level
+  t ← (elab s scope a).formed (under_variable xs c top_level)
+  u ← within_limits_at pos (TFun c t)
+  b ← (elab s scope e).check (under_variable xs c top_level) (place e) t
+  f ← within_limits_at (place e) (Lam c b)
+  pure (record { kind = ConstSig u (Some f); typing = outcome.◌>>◌ (well_formed s [] u) (check s (Variable c ∷ []) b t); variables = variable_refs scope (variables d ++ (variables a ++ variables e)) })
 
-abbrev pub constant_decl : Lookups → Names → List Bound → Phrase → Option Phrase → Answer Entered
+abbrev pub constant_decl : Lookups → Names → List Bound → Phrase → Option Phrase → Answer CheckedEntry
 constant_decl s scope [] a None = constant s scope a (place a)
 constant_decl s scope [] a (Some e) = definition s scope a e
 constant_decl s scope (b ∷ bs) a None = constant s scope (Function (domain b.pos (b ∷ bs)) (names (b ∷ bs)) a b.pos) b.pos
 constant_decl s scope (b ∷ bs) a (Some e) = function s scope (domain b.pos (b ∷ bs)) b.pos (names (b ∷ bs)) a e
 
-abbrev pub type_definition : Lookups → Names → Phrase → (Tree → Kind) → Answer Entered
+abbrev pub type_definition : Lookups → Names → Phrase → (Tree → Kind) → Answer CheckedEntry
 type_definition s scope a kind = do
-  t ← (elab s scope a).formed outermost
-  pure (record { kind = kind t; owed = well_formed s [] t; variables = variable_refs scope (variables a) })
+  t ← (elab s scope a).formed top_level
+  pure (record { kind = kind t; typing = well_formed s [] t; variables = variable_refs scope (variables a) })
 
-abbrev pub formula_decl : Lookups → Names → Class → Phrase → Answer Entered
+abbrev pub formula_decl : Lookups → Names → Class → Phrase → Answer CheckedEntry
 formula_decl s scope c e = do
   f ← formula s scope e
-  pure (record { kind = FormulaSig c f.tree 0; owed = check s (binders_of f.variables) f.open_tree TBool; variables = map (λ (b : free.Bound). b.reference) f.variables ++ variable_refs scope (variables e) })
+  pure (record { kind = FormulaSig c f.tree 0; typing = check s (binders_of f.variables) f.open_tree TBool; variables = map (λ (b : free.FreeVariable). b.reference) f.variables ++ variable_refs scope (variables e) })
 
 abbrev pub body_of : Text → Option Expr → Option Phrase
 body_of text None = None
 body_of text (Some e) = Some (phrase text e)
 
 -- a declaration of this text; an importing is not built
-abbrev pub declaration : Lookups → Names → Text → Decl → Answer Entered
+abbrev pub declaration : Lookups → Names → Text → Decl → Answer CheckedEntry
 declaration s scope text (decl.Importing i) = fault i.theory.pos OutOfProfile
-declaration s scope text (decl.TypeDecl w nonempty) = pure (record { kind = TypeSig nonempty None; owed = outcome.pure tt; variables = [] })
+declaration s scope text (decl.TypeDecl w nonempty) = pure (record { kind = TypeSig nonempty None; typing = outcome.pure tt; variables = [] })
 declaration s scope text (decl.TypeDef w a) = type_definition s scope (type_phrase text a) (λ t. TypeSig false (Some t))
 declaration s scope text (decl.VarDecl w a) = type_definition s scope (type_phrase text a) VarSig
 declaration s scope text (decl.ConstDecl w bs a e) = constant_decl s scope (map (bound_of text) bs) (type_phrase text a) (body_of text e)
@@ -130,14 +130,14 @@ decl_place (decl.Formula w word e) = w.pos
 
 -- An elaborated declaration: its entry or its importing, the conditions that it owes, in order and not yet closed, and what it
 -- uses: the symbols of its trees, and the VARs that gave types or are free.
-pub record Declared : Type 0 where
+pub record ElaboratedDecl : Type 0 where
   pub entry : Option Kind
   pub import : Option Import
   pub conditions : Conditions
   pub uses : List Ref
 
-abbrev pub elab_decl : Lookups → Names → Text → Decl → Answer Declared
+abbrev pub elab_decl : Lookups → Names → Text → Decl → Answer ElaboratedDecl
 elab_decl s names text d = do
   e ← declaration s names text d
-  j ← judged (decl_place d) e.owed
+  j ← judgement_at (decl_place d) e.typing
   pure (record { entry = Some e.kind; import = None; conditions = j.conditions; uses = kind_symbols e.kind ++ e.variables })

@@ -6,7 +6,7 @@ use Rattle.pvs_base.specs.declared.place.Pos.{Pos}
 use Rattle.pvs_terms.specs.Tree.{Text, Tree, Ref, Var, TBool}
 use Rattle.pvs_subst.specs.Contexts.{Assumptions, Variable}
 use Rattle.pvs_sig.specs.Lookups.{Lookups}
-use Rattle.pvs_elab.specs.Answer.{Answer, pure, made, known}
+use Rattle.pvs_elab.specs.Answer.{Answer, pure, within_limits_at, from_name}
 use Rattle.pvs_elab.specs.Names.{Names}
 use Rattle.pvs_elab.specs.Phrase.{Phrase, Name, Truth, Apply, Tuple, Part, Group, Choice, Not, Equal, Iff, All, Lambda, Let, LetAs, TypeOf, Sub, Predicate, Function, Product, Other, place}
 use Rattle.pvs_elab.specs.Elab.{Local, Here, elab, universal}
@@ -53,50 +53,50 @@ firsts seen [] = []
 firsts seen (o ∷ os) = if is_in o.name seen then firsts seen os else o ∷ firsts (o.name ∷ seen) os
 
 -- a free VAR
-pub record Bound : Type 0 where
+pub record FreeVariable : Type 0 where
   pub name : Text
   pub reference : Ref
   pub ty : Tree
 
-abbrev pub free_variables : Names → List Occurs → Answer (List Bound)
+abbrev pub free_variables : Names → List Occurs → Answer (List FreeVariable)
 free_variables names [] = pure []
 free_variables names (o ∷ os) = do
-  v ← known o.pos (names.variable_named o.name)
+  v ← from_name o.pos (names.variable_named o.name)
   rest ← free_variables names os
   pure (record { name = o.name; reference = v.reference; ty = v.ty } ∷ rest)
 
 -- the first of these is the innermost; their types are closed
-abbrev pub locals_of : ℕ → List Bound → List Local
+abbrev pub locals_of : ℕ → List FreeVariable → List Local
 locals_of n [] = []
 locals_of n (b ∷ bs) = record { name = b.name; term = Var n } ∷ locals_of (suc n) bs
 
-abbrev pub binders_of : List Bound → Assumptions
-binders_of bs = map (λ (b : Bound). Variable b.ty) bs
+abbrev pub binders_of : List FreeVariable → Assumptions
+binders_of bs = map (λ (b : FreeVariable). Variable b.ty) bs
 
-abbrev pub under : List Bound → Here
-under bs = record { locals = locals_of 0 bs; context = binders_of bs }
+abbrev pub here_under : List FreeVariable → Here
+here_under bs = record { locals = locals_of 0 bs; context = binders_of bs }
 
 -- the formula under these binders, the innermost first
-abbrev pub closed_by : Pos → List Bound → Tree → Answer Tree
+abbrev pub closed_by : Pos → List FreeVariable → Tree → Answer Tree
 closed_by pos [] t = pure t
 closed_by pos (b ∷ bs) t = do
-  u ← made pos (universal b.ty t)
+  u ← within_limits_at pos (universal b.ty t)
   closed_by pos bs u
 
 -- FORALL over these variables, the innermost first
-abbrev pub closure : List Bound → Tree → Tree
+abbrev pub closure : List FreeVariable → Tree → Tree
 closure [] t = t
 closure (b ∷ bs) t = closure bs (universal b.ty t)
 
 -- A formula: its free VARs, the innermost first, its tree under them, and the closed tree.
 pub record Formula : Type 0 where
-  pub variables : List Bound
+  pub variables : List FreeVariable
   pub open_tree : Tree
   pub tree : Tree
 
-abbrev pub formula_under : Lookups → Names → Phrase → List Bound → Answer Formula
+abbrev pub formula_under : Lookups → Names → Phrase → List FreeVariable → Answer Formula
 formula_under s names e bs = do
-  t ← (elab s names e).check (under bs) (place e) TBool
+  t ← (elab s names e).check (here_under bs) (place e) TBool
   u ← closed_by (place e) bs t
   pure (record { variables = bs; open_tree = t; tree = u })
 

@@ -15,9 +15,9 @@ use Rattle.pvs_types.specs.Uses.{AreSameSymbols}
 use Rattle.pvs_elab.specs.Answer.{Answer}
 use Rattle.pvs_elab.specs.Names.{Names, names_at}
 use Rattle.pvs_elab.specs.Phrase.{Phrase}
-use Rattle.pvs_elab.specs.Elab.{Here, Elab, Elaborated, elab, inferred, checked, formed, variables, variable_refs}
+use Rattle.pvs_elab.specs.Elab.{Here, Elab, Elaborated, elab, inferred_term, checked_term, well_formed_type, variables, variable_refs}
 use Rattle.pvs_elab.specs.Formula.{Formula, formula, binders_of, closure}
-use Rattle.pvs_elab.specs.Declaration.{Declared, Entered, declaration, elab_decl, kind_symbols}
+use Rattle.pvs_elab.specs.Declaration.{ElaboratedDecl, CheckedEntry, declaration, elab_decl, kind_symbols}
 
 -- typing accepts, with this result and some conditions
 abbrev pub Gives : {A : Type 0} → Outcome A → A → Type 0
@@ -62,31 +62,31 @@ pub record IsFormed (s : Lookups) (names : Names) (e : Phrase) (h : Here) (x : E
 
 abbrev pub AnswersAreTyped : Type 0
 AnswersAreTyped = (s : Lookups) (names : Names) (e : Phrase) (h : Here)
-    → ((x : Elaborated) → inferred s names e h ≡ Ok x → IsInferred s names e h x)
-    × ((a : Tree) (x : Elaborated) → checked s names e h a ≡ Ok x → IsChecked s names e h a x)
-    × ((x : Elaborated) → formed s names e h ≡ Ok x → IsFormed s names e h x)
+    → ((x : Elaborated) → inferred_term s names e h ≡ Ok x → IsInferred s names e h x)
+    × ((a : Tree) (x : Elaborated) → checked_term s names e h a ≡ Ok x → IsChecked s names e h a x)
+    × ((x : Elaborated) → well_formed_type s names e h ≡ Ok x → IsFormed s names e h x)
 
 -- a fault is one that elaboration meets: typing of the finished tree has none
 abbrev pub FaultsAreMet : Type 0
 FaultsAreMet = (s : Lookups) (names : Names) (e : Phrase) (h : Here) (f : Fault)
-    → (inferred s names e h ≡ Err f → (elab s names e).infer h ≡ Err f)
-    × ((a : Tree) → checked s names e h a ≡ Err f → (elab s names e).check h (elab s names e).place a ≡ Err f)
-    × (formed s names e h ≡ Err f → (elab s names e).formed h ≡ Err f)
+    → (inferred_term s names e h ≡ Err f → (elab s names e).infer h ≡ Err f)
+    × ((a : Tree) → checked_term s names e h a ≡ Err f → (elab s names e).check h (elab s names e).place a ≡ Err f)
+    × (well_formed_type s names e h ≡ Err f → (elab s names e).formed h ≡ Err f)
 
 -- a declaration: typing owes the conditions for the trees of its entry, and has no fault of its own
-pub record IsDeclared (s : Lookups) (names : Names) (text : Text) (d : Decl) (x : Declared) : Type 0 where
-  pub entered : Entered
-  pub made : declaration s names text d ≡ Ok entered
+pub record IsDeclared (s : Lookups) (names : Names) (text : Text) (d : Decl) (x : ElaboratedDecl) : Type 0 where
+  pub entered : CheckedEntry
+  pub found : declaration s names text d ≡ Ok entered
   pub entry : x.entry ≡ Some entered.kind
   pub import : x.import ≡ None
   pub used : List Ref
-  pub owed : entered.owed ≡ Accepted tt x.conditions used
+  pub typing : entered.typing ≡ Accepted tt x.conditions used
   pub uses : x.uses ≡ kind_symbols entered.kind ++ entered.variables
 
 abbrev pub DeclarationsAreTyped : Type 0
 DeclarationsAreTyped = (s : Lookups) (names : Names) (text : Text) (d : Decl)
-    → Holds (λ (e : Entered). Gives e.owed tt) (declaration s names text d)
-    × ((x : Declared) → elab_decl s names text d ≡ Ok x → IsDeclared s names text d x)
+    → Holds (λ (e : CheckedEntry). Gives e.typing tt) (declaration s names text d)
+    × ((x : ElaboratedDecl) → elab_decl s names text d ≡ Ok x → IsDeclared s names text d x)
     × ((f : Fault) → elab_decl s names text d ≡ Err f → declaration s names text d ≡ Err f)
 
 -- a formula is a truth value under its free VARs, and its tree is its closure over them

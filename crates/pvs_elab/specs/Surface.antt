@@ -10,13 +10,13 @@ use Rattle.pvs_syntax.specs.declared.expression.Binding.{Binding, roll-Binding}
 use Rattle.pvs_syntax.specs.declared.expression.Expr.{Expr}
 use Rattle.pvs_syntax.specs.declared.expression.Expr.TheVariants as expr
 use Rattle.pvs_syntax.specs.declared.expression.InfixWord.{InfixWord}
-use Rattle.pvs_syntax.specs.declared.expression.InstExpr.{InstExpr, roll-InstExpr}
+use Rattle.pvs_syntax.specs.declared.expression.InstExpr.{roll-InstExpr}
 use Rattle.pvs_syntax.specs.declared.expression.LetPart.{LetPart, roll-LetPart}
 use Rattle.pvs_syntax.specs.declared.expression.NameExpr.{NameExpr, roll-NameExpr}
 use Rattle.pvs_syntax.specs.declared.expression.TypeExpr.{TypeExpr}
 use Rattle.pvs_syntax.specs.declared.expression.TypeExpr.TheVariants as type_expr
 use Rattle.pvs_syntax.specs.Words.{spelling}
-use Rattle.pvs_elab.specs.Phrase.{Phrase, Name, Truth, Part, Group, Choice, Not, Sub, Predicate, Function, Other, place}
+use Rattle.pvs_elab.specs.Phrase.{Name, Truth, Part, Group, Choice, Not, Sub, Predicate, Function, Other, place}
 use Rattle.pvs_elab.specs.Desugar.{decimal, domain, names, quantified, tuple_term, arguments, lets_term, operator, phrase, type_phrase, bound_of, value_of, name_phrase}
 
 pub record IsByForms (text : Text) : Type 0 where

@@ -125,14 +125,14 @@ instance_of_itself = refl
 
 -- By another theory: the entries of its visible instances.
 
-by_theory : resolve d b 1 TypeName (Some (by (codes "th"))) (codes "T") ≡ Ok (Inst (codes "th") 3 of_bool)
-by_theory = refl
+resolve_by_theory : resolve d b 1 TypeName (Some (by (codes "th"))) (codes "T") ≡ Ok (Inst (codes "th") 3 of_bool)
+resolve_by_theory = refl
 
 by_theory_twice : resolve d a 5 TypeName (Some (by (codes "th"))) (codes "T") ≡ Err Ambiguous
 by_theory_twice = refl
 
-by_instance : resolve d a 5 TypeName (Some (at (codes "th") of_t)) (codes "T") ≡ Ok (Inst (codes "th") 3 of_t)
-by_instance = refl
+resolve_by_instance : resolve d a 5 TypeName (Some (at (codes "th") of_t)) (codes "T") ≡ Ok (Inst (codes "th") 3 of_t)
+resolve_by_instance = refl
 
 other_instance : resolve d b 1 TypeName (Some (at (codes "th") of_t)) (codes "T") ≡ Err NotImported
 other_instance = refl

@@ -14,7 +14,7 @@ use Rattle.pvs_sig.specs.Instances.{instances, lists_instance}
 use Rattle.pvs_names.specs.declared.kind.NameKind.{NameKind}
 use Rattle.pvs_names.specs.declared.kind.NameKind.TheVariants.{TypeName, Constant, FormulaName}
 use Rattle.pvs_names.specs.Members.{Member, name_kind, of_entry, of_formal, entry_in, member_of, members, kind_eq, is_called, the_one, find}
-use Rattle.pvs_names.specs.Resolve.{Qualifier, is_own, is_imported, is_own_entry, is_entry_of, is_entry_at, lists_theory, or_else, visible, own_below, any_formula, plain, where_visible, qualified, resolve}
+use Rattle.pvs_names.specs.Resolve.{Qualifier, is_own, is_imported, is_own_entry, is_entry_of, is_entry_at, lists_theory, or_else, visible_members, own_refs_below, any_formula, find_plain, if_visible, resolve_qualified, resolve}
 
 pub record IsFound (kind : NameKind) (name : Text) (ms : List Member) (r : Ref) : Type 0 where
   pub member : Member
@@ -138,29 +138,29 @@ module _ (d : Development) (s : Signature) (i : ℕ) (kind : NameKind) (name : T
   abbrev Is : Type 0
   Is = (In r (scope d s i) ⊎ (kind ≡ FormulaName)) × IsNamed d s kind name r
 
-  seen : (is : Ref → Bool) → find is kind name (visible d s i) ≡ Ok r → Is
+  seen : (is : Ref → Bool) → find is kind name (visible_members d s i) ≡ Ok r → Is
   seen is e = let p = found_named d s (scope d s i) is kind name r e in (inl p.0, p.1)
 
   formula_is : (k : NameKind) → kind ≡ k → any_formula d s k name ≡ Ok r → Is
   formula_is TypeName k e = absurd (cc)
   formula_is Constant k e = absurd (cc)
-  formula_is FormulaName k e = (inr k, subst (λ j. IsNamed d s j name r) (sym k) (found_named d s (own_below (length s.entries)) is_own_entry FormulaName name r e).1)
+  formula_is FormulaName k e = (inr k, subst (λ j. IsNamed d s j name r) (sym k) (found_named d s (own_refs_below (length s.entries)) is_own_entry FormulaName name r e).1)
 
-  where_is : (b : Bool) (q : Result Ref Code) → (q ≡ Ok r → Is) → where_visible b q ≡ Ok r → Is
+  where_is : (b : Bool) (q : Result Ref Code) → (q ≡ Ok r → Is) → if_visible b q ≡ Ok r → Is
   where_is true q f e = f e
   where_is false q f e = absurd (cc)
 
-  theory_is : (b c : Bool) (th : Text) → (if b then or_else (find is_own_entry kind name (visible d s i)) (any_formula d s kind name) else where_visible c (find (is_entry_of th) kind name (visible d s i))) ≡ Ok r → Is
-  theory_is true c th e = or_else_is (λ x. Is) (find is_own_entry kind name (visible d s i)) (any_formula d s kind name) r (seen is_own_entry) (formula_is kind refl) e
-  theory_is false c th e = where_is c (find (is_entry_of th) kind name (visible d s i)) (seen (is_entry_of th)) e
+  theory_is : (b c : Bool) (th : Text) → (if b then or_else (find is_own_entry kind name (visible_members d s i)) (any_formula d s kind name) else if_visible c (find (is_entry_of th) kind name (visible_members d s i))) ≡ Ok r → Is
+  theory_is true c th e = or_else_is (λ x. Is) (find is_own_entry kind name (visible_members d s i)) (any_formula d s kind name) r (seen is_own_entry) (formula_is kind refl) e
+  theory_is false c th e = where_is c (find (is_entry_of th) kind name (visible_members d s i)) (seen (is_entry_of th)) e
 
-  qualified_is : (th : Text) (acts : Option Trees) → qualified d s i kind th acts name ≡ Ok r → Is
+  qualified_is : (th : Text) (acts : Option Trees) → resolve_qualified d s i kind th acts name ≡ Ok r → Is
   qualified_is th None e = theory_is (bytes_eq th s.name) (lists_theory th (instances d s i)) th e
-  qualified_is th (Some acts) e = where_is (lists_instance th acts (instances d s i)) (find (is_entry_at th acts) kind name (visible d s i)) (seen (is_entry_at th acts)) e
+  qualified_is th (Some acts) e = where_is (lists_instance th acts (instances d s i)) (find (is_entry_at th acts) kind name (visible_members d s i)) (seen (is_entry_at th acts)) e
 
   pub resolved_is : (q : Option Qualifier) → resolve d s i kind q name ≡ Ok r → Is
-  resolved_is None e = or_else_is (λ x. Is) (plain kind name (visible d s i)) (any_formula d s kind name) r
-      (λ p. or_else_is (λ x. Is) (find is_own kind name (visible d s i)) (find is_imported kind name (visible d s i)) r (seen is_own) (seen is_imported) p) (formula_is kind refl) e
+  resolved_is None e = or_else_is (λ x. Is) (find_plain kind name (visible_members d s i)) (any_formula d s kind name) r
+      (λ p. or_else_is (λ x. Is) (find is_own kind name (visible_members d s i)) (find is_imported kind name (visible_members d s i)) r (seen is_own) (seen is_imported) p) (formula_is kind refl) e
   resolved_is (Some q) e = qualified_is q.theory q.actuals e
 
   pub resolved_kind : (q : Option Qualifier) → resolve d s i kind q name ≡ Ok r → (k : Kind) × (kind_of d s r ≡ Some k) × (name_kind k ≡ kind)

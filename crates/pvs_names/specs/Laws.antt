@@ -9,7 +9,7 @@ use Rattle.pvs_sig.specs.Scope.{scope}
 use Rattle.pvs_names.specs.declared.kind.NameKind.{NameKind}
 use Rattle.pvs_names.specs.declared.kind.NameKind.TheVariants.{FormulaName}
 use Rattle.pvs_names.specs.Members.{Member, is_called, find, member_of, name_kind}
-use Rattle.pvs_names.specs.Resolve.{Qualifier, plain, is_own, is_imported, or_else, resolve}
+use Rattle.pvs_names.specs.Resolve.{Qualifier, find_plain, is_own, is_imported, or_else, resolve}
 
 -- what an index keeps for a kind and a name, after one more member of them: nothing, then one, then several
 abbrev pub one_more : Result Ref Code → Ref → Result Ref Code
@@ -25,7 +25,7 @@ IndexesKeepNames = (is : Ref → Bool) (kind : NameKind) (name : Text) (ms : Lis
 -- a plain name over one more own member, or one more that an importing brings, is answered from the two indexes
 abbrev pub PlainNamesAreIndexed : Type 0
 PlainNamesAreIndexed = (kind : NameKind) (name : Text) (ms : List Member) (m : Member)
-    → plain kind name (ms ++ m ∷ []) ≡ or_else
+    → find_plain kind name (ms ++ m ∷ []) ≡ or_else
     (if is_called is_own kind name m then one_more (find is_own kind name ms) m.reference else find is_own kind name ms)
     (if is_called is_imported kind name m then one_more (find is_imported kind name ms) m.reference else find is_imported kind name ms)
 

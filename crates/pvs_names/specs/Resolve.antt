@@ -53,46 +53,46 @@ or_else (Err Unknown) r = r
 or_else q r = q
 
 -- what the place sees
-abbrev pub visible : Development → Signature → ℕ → List Member
-visible d s i = members d s (scope d s i)
+abbrev pub visible_members : Development → Signature → ℕ → List Member
+visible_members d s i = members d s (scope d s i)
 
-abbrev pub own_below : ℕ → List Ref
-own_below zero = []
-own_below (suc n) = own_below n ++ Own n ∷ []
+abbrev pub own_refs_below : ℕ → List Ref
+own_refs_below zero = []
+own_refs_below (suc n) = own_refs_below n ++ Own n ∷ []
 
 -- the own formula of this name, wherever it stands; there is none of another kind
 abbrev pub any_formula : Development → Signature → NameKind → Text → Result Ref Code
-any_formula d s FormulaName name = find is_own_entry FormulaName name (members d s (own_below (length s.entries)))
+any_formula d s FormulaName name = find is_own_entry FormulaName name (members d s (own_refs_below (length s.entries)))
 any_formula d s _ name = Err Unknown
 
 -- by itself: an own entry or formal comes before what importings bring
-abbrev pub plain : NameKind → Text → List Member → Result Ref Code
-plain kind name ms = or_else (find is_own kind name ms) (find is_imported kind name ms)
+abbrev pub find_plain : NameKind → Text → List Member → Result Ref Code
+find_plain kind name ms = or_else (find is_own kind name ms) (find is_imported kind name ms)
 
 -- what is asked of instances, where one is visible
-abbrev pub where_visible : Bool → Result Ref Code → Result Ref Code
-where_visible b r = if b then r else Err NotImported
+abbrev pub if_visible : Bool → Result Ref Code → Result Ref Code
+if_visible b r = if b then r else Err NotImported
 
 -- by a theory: the own entries where it is this one, and else the entries of its visible instances
-abbrev pub by_theory : Development → Signature → ℕ → NameKind → Text → Text → Result Ref Code
-by_theory d s i kind th name =
-    if bytes_eq th s.name then or_else (find is_own_entry kind name (visible d s i)) (any_formula d s kind name)
-    else where_visible (lists_theory th (instances d s i)) (find (is_entry_of th) kind name (visible d s i))
+abbrev pub resolve_by_theory : Development → Signature → ℕ → NameKind → Text → Text → Result Ref Code
+resolve_by_theory d s i kind th name =
+    if bytes_eq th s.name then or_else (find is_own_entry kind name (visible_members d s i)) (any_formula d s kind name)
+    else if_visible (lists_theory th (instances d s i)) (find (is_entry_of th) kind name (visible_members d s i))
 
 -- by an instance: its entries, where it is visible. A theory is no visible instance of itself
-abbrev pub by_instance : Development → Signature → ℕ → NameKind → Text → Trees → Text → Result Ref Code
-by_instance d s i kind th acts name = where_visible (lists_instance th acts (instances d s i)) (find (is_entry_at th acts) kind name (visible d s i))
+abbrev pub resolve_by_instance : Development → Signature → ℕ → NameKind → Text → Trees → Text → Result Ref Code
+resolve_by_instance d s i kind th acts name = if_visible (lists_instance th acts (instances d s i)) (find (is_entry_at th acts) kind name (visible_members d s i))
 
-abbrev pub qualified : Development → Signature → ℕ → NameKind → Text → Option Trees → Text → Result Ref Code
-qualified d s i kind th None name = by_theory d s i kind th name
-qualified d s i kind th (Some acts) name = by_instance d s i kind th acts name
+abbrev pub resolve_qualified : Development → Signature → ℕ → NameKind → Text → Option Trees → Text → Result Ref Code
+resolve_qualified d s i kind th None name = resolve_by_theory d s i kind th name
+resolve_qualified d s i kind th (Some acts) name = resolve_by_instance d s i kind th acts name
 
 -- What a name of this kind stands for, as entry i of s sees it where the theories of d stand. Unknown: nothing that the
 -- name may stand for has it. Ambiguous: several have it. NotImported: no instance of the theory that qualifies it is
 -- visible, or not this one. A formula's name that nothing else has is the own formula that stands here or later.
 abbrev pub resolve : Development → Signature → ℕ → NameKind → Option Qualifier → Text → Result Ref Code
-resolve d s i kind None name = or_else (plain kind name (visible d s i)) (any_formula d s kind name)
-resolve d s i kind (Some q) name = qualified d s i kind q.theory q.actuals name
+resolve d s i kind None name = or_else (find_plain kind name (visible_members d s i)) (any_formula d s kind name)
+resolve d s i kind (Some q) name = resolve_qualified d s i kind q.theory q.actuals name
 
 -- names that PVS has and this profile lacks
 abbrev pub is_outside : Text → Bool
