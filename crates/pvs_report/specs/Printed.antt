@@ -4,8 +4,8 @@ use Rattle.pvs_report.specs.declared.line.Line as program
 use Rattle.pvs_report.specs.declared.line.Line.TheVariants as line
 use Rattle.pvs_report.specs.declared.line.LineWord as program_word
 use Rattle.pvs_report.specs.declared.line.LineWord.TheVariants as word
-use Rattle.pvs_report.specs.declared.line.Name as program_name
-use Rattle.pvs_report.specs.declared.line.Name.TheVariants as name
+use Rattle.pvs_report.specs.declared.line.LineName as program_name
+use Rattle.pvs_report.specs.declared.line.LineName.TheVariants as name
 use Rattle.pvs_report.specs.Lines.{Line, TheoryLine, RefusedLine, FormulaLine, LineWord, AxiomWord, AssumptionWord, CompleteWord, IncompleteWord, OpenWord, full_name}
 
 abbrev pub word_shown : program_word.LineWord → LineWord
@@ -15,7 +15,7 @@ word_shown word.CompleteWord = CompleteWord
 word_shown (word.IncompleteWord t n) = IncompleteWord t.now n.now
 word_shown word.OpenWord = OpenWord
 
-abbrev pub name_shown : program_name.Name → List ℕ
+abbrev pub name_shown : program_name.LineName → List ℕ
 name_shown (name.Simple n) = n.now
 name_shown (name.Qualified t n) = full_name t.now n.now
 

@@ -5,7 +5,7 @@ mod line;
 mod put;
 mod totals;
 
-pub use line::{Line, LineWord, Name, What};
+pub use line::{Line, LineName, LineWord, What};
 pub use put::put_report;
 pub use totals::{Totals, count_lines};
 

@@ -28,7 +28,7 @@ pub enum What {
 
 /// A name in a refusal. Names are bytes of a text.
 #[derive(Clone, Copy)]
-pub enum Name<'a> {
+pub enum LineName<'a> {
     /// The name of a unit or a theory.
     Simple(&'a [u8]),
 
@@ -45,7 +45,7 @@ pub enum Line<'a> {
     /// A refused unit, theory or proof, with the place and the cause.
     RefusedLine {
         what: What,
-        name: Name<'a>,
+        name: LineName<'a>,
         fault: Fault,
     },
 

@@ -4,7 +4,7 @@ ghost use Rattle.std.specs.Prelude.{◌≡◌, ◌++◌, ◌∷◌, [], flat_map
 ghost use Rattle.pvs_report.specs.Lines.{TotalLine, bytes_of, fault_text, line_bytes, report_bytes, what_text, word_text};
 ghost use Rattle.pvs_report.specs.Printed.{line_shown, lines_shown, name_shown, word_shown};
 
-use crate::line::{Line, LineWord, Name, What};
+use crate::line::{Line, LineName, LineWord, What};
 use crate::totals::Totals;
 use itoa::Buffer;
 use pvs_base::{Fault, code_name};
@@ -43,12 +43,12 @@ fn what_text(what: What) -> &'static [u8]
 }
 
 /// Adds the name.
-fn put_name(out: &mut Vec<u8>, name: Name<'_>) -> Result<(), AllocError>
+fn put_name(out: &mut Vec<u8>, name: LineName<'_>) -> Result<(), AllocError>
     ensures { OnOk result (out.new.items ≡ out.old.items ++ name_shown name.entry) }
 {
     match name {
-        Name::Simple(text) => put(out, &[text]),
-        Name::Qualified(theory, formula) => put_between(out, theory, b".", formula),
+        LineName::Simple(text) => put(out, &[text]),
+        LineName::Qualified(theory, formula) => put_between(out, theory, b".", formula),
     }
 }
 

@@ -1,6 +1,6 @@
 //! A report of each kind of line.
 
-use crate::{Line, LineWord, Name, Totals, What, count_lines, put_report};
+use crate::{Line, LineName, LineWord, Totals, What, count_lines, put_report};
 use pvs_base::{Code, Fault, Pos};
 use std::test::Fail;
 
@@ -12,7 +12,7 @@ fn formula<'a>(formula: &'a [u8], word: LineWord<'a>) -> Line<'a> {
     }
 }
 
-fn refusal<'a>(what: What, name: Name<'a>) -> Line<'a> {
+fn refusal<'a>(what: What, name: LineName<'a>) -> Line<'a> {
     let pos = Pos { line: 3, col: 14 };
     Line::RefusedLine {
         what,
@@ -46,9 +46,9 @@ fn each_kind_of_line(rt: HostRuntime) -> Result<(), Fail> {
         formula(b"c", LineWord::CompleteWord),
         formula(b"d", LineWord::IncompleteWord(b"t", b"e")),
         formula(b"e", LineWord::OpenWord),
-        refusal(What::UnitOf, Name::Simple(b"u")),
-        refusal(What::TheoryOf, Name::Simple(b"s")),
-        refusal(What::ProofOf, Name::Qualified(b"t", b"f")),
+        refusal(What::UnitOf, LineName::Simple(b"u")),
+        refusal(What::TheoryOf, LineName::Simple(b"s")),
+        refusal(What::ProofOf, LineName::Qualified(b"t", b"f")),
     ];
     let totals = count_lines(&lines);
     let counts = Totals {
