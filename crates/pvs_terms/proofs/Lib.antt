@@ -6,3 +6,4 @@ pub mod StoredLaws
 pub mod SortLaws
 pub mod DistinctLaws
 pub mod StoreLaws
+pub mod LookupLaws
