@@ -1,4 +1,5 @@
 pub mod Lists
+pub mod CountLaws
 pub mod NumberLaws
 pub mod PremiseLaws
 pub mod Refutations

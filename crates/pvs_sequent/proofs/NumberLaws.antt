@@ -1,16 +1,16 @@
 -- Laws of sequents of numbers and what they stand for.
-use Rattle.std.proofs.Common.{◌≡◌, ◌∙◌, ◌<◌, ◌||◌, refl, sym, ap, ap₂, subst, arith, ℕ, zero, suc, Bool, List, [], ◌∷◌, ◌++◌, length, get_or, remove, reverse, slice_get, Option}
+use Rattle.std.proofs.Common.{◌≡◌, ◌∙◌, ◌<◌, ◌||◌, refl, sym, ap, ap₂, subst, arith, ℕ, zero, suc, Bool, true, false, eqb, eq-eqb, List, [], ◌∷◌, length, get_or, remove, slice_get, Option}
 use Rattle.std.specs.List.{list_any}
-use Rattle.std.proofs.lemmas.Grind.{reverse_onto}
+use Rattle.std.proofs.lemmas.Bool.{eqb-true, true≢false}
 use Rattle.pvs_terms.specs.Tree.{Tree, tree_eq}
+use Rattle.pvs_terms.proofs.TreeLaws.{tree_eq-decided}
 use Rattle.pvs_terms.specs.Stored.{Stored, tree_at, IsNode, AreNodes}
 use Rattle.pvs_sequent.specs.declared.place.Place.{Place}
 use Rattle.pvs_sequent.specs.declared.place.Place.TheVariants as place
-use Rattle.pvs_sequent.specs.Sequents.{formula_at, without, is_among, is_closing, close_sequent, is_closed}
-use Rattle.pvs_sequent.specs.declared.place.Side.TheVariants as side
+use Rattle.pvs_sequent.specs.Sequents.{formula_at, without, shares}
+use Rattle.pvs_sequent.specs.Counts.{BothSides, share_number}
 use Rattle.pvs_sequent.specs.Numbered.{Numbered}
 use Rattle.pvs_sequent.specs.Numbers.{all_at, sequent_at, IsSequent, IsFormula, StandsFor}
-use Rattle.pvs_sequent.proofs.Lists.{list_any-map, list_any-reverse, list_any-alike}
 
 -- the formula of an index
 pub formula_of_list : (s : Stored) (ids : List ℕ) (i : ℕ) → AreNodes s ids → IsFormula s (slice_get (all_at s ids) i) (slice_get ids i)
@@ -45,41 +45,40 @@ all_without s [] (suc i) = refl
 all_without s (m ∷ ids) zero = refl
 all_without s (m ∷ ids) (suc i) = ap (λ ts. tree_at s m ∷ ts) (all_without s ids i)
 
-pub nodes_append : (s : Stored) (ids more : List ℕ) → AreNodes s (ids ++ more) → AreNodes s ids × AreNodes s more
-nodes_append s [] more h = (tt, h)
-nodes_append s (m ∷ ids) more h = let r = nodes_append s ids more h.1 in ((h.0, r.0), r.1)
+-- where one number stands for a tree, the trees of a list have it where the list has the number
+pub number_among : (s : Stored) (t : Tree) (f : ℕ) (ids : List ℕ) → tree_at s f ≡ t → ((j : ℕ) → IsNode s j → tree_at s j ≡ t → j ≡ f) → AreNodes s ids → list_any (tree_eq t) (all_at s ids) ≡ list_any (eqb f) ids
+number_among s t f [] e one h = refl
+number_among s t f (i ∷ ids) e one h =
+    let same : eqb f i ≡ tree_eq t (tree_at s i) = tree_eq-decided (eqb f i) t (tree_at s i) (λ x. sym e ∙ ap (tree_at s) (eqb-true f i x)) (λ x. eq-eqb f i (sym (one i h.0 (sym x)))) in
+    ap₂ (λ (b c : Bool). b || c) (sym same) (number_among s t f ids e one h.1)
 
-pub nodes_reverse : (s : Stored) (ids : List ℕ) → AreNodes s (reverse ids) → AreNodes s ids
-nodes_reverse s [] h = tt
-nodes_reverse s (m ∷ ids) h =
-    let r = nodes_append s (reverse ids) (m ∷ []) (subst (AreNodes s) (reverse_onto ids m []) h) in
-    (r.1.0, nodes_reverse s ids r.0)
+pub none_among : (s : Stored) (t : Tree) (ids : List ℕ) → ((j : ℕ) → IsNode s j → tree_at s j ≡ t → ⊥) → AreNodes s ids → list_any (tree_eq t) (all_at s ids) ≡ false
+none_among s t [] none h = refl
+none_among s t (i ∷ ids) none h =
+    let apart : false ≡ tree_eq t (tree_at s i) = tree_eq-decided false t (tree_at s i) (λ x. absurd (true≢false (sym x))) (λ x. absurd (none i h.0 (sym x))) in
+    ap₂ (λ (b c : Bool). b || c) (sym apart) (none_among s t ids none h.1)
 
--- the order of formulas does not matter to whether they close a sequent
-any_reverse : (s : Stored) (p : Tree → Bool) (ids : List ℕ) → list_any p (all_at s (reverse ids)) ≡ list_any p (all_at s ids)
-any_reverse s p ids = list_any-map p (tree_at s) (reverse ids) ∙ list_any-reverse _ ids ∙ sym (list_any-map p (tree_at s) ids)
-
-pub close_reversed : (s : Stored) (q : Numbered) (ts us : List ℕ) → reverse ts ≡ q.antecedents → reverse us ≡ q.consequents → close_sequent (all_at s ts) (all_at s us) ≡ is_closed (sequent_at s q)
-close_reversed s q ts us a c =
-    let both = ap₂ (λ (b d : Bool). b || d) (any_reverse s (is_closing side.Antecedents) ts) (ap₂ (λ (b d : Bool). b || d) (any_reverse s (is_closing side.Consequents) us)
-    (any_reverse s (λ t. is_among t (all_at s (reverse us))) ts ∙ list_any-alike _ _ (λ t. any_reverse s (tree_eq t) us) (all_at s ts))) in
-    sym both ∙ ap₂ (λ (x y : List ℕ). close_sequent (all_at s x) (all_at s y)) a c
+-- where equal trees have equal numbers, lists share a tree where they share a number
+pub numbers_shared : (s : Stored) (ts us : List ℕ) → ((i j : ℕ) → IsNode s i → IsNode s j → tree_at s i ≡ tree_at s j → i ≡ j) → AreNodes s ts → AreNodes s us → shares (all_at s ts) (all_at s us) ≡ share_number ts us
+numbers_shared s [] us one h k = refl
+numbers_shared s (t ∷ ts) us one h k =
+    ap₂ (λ (b c : Bool). b || c) (number_among s (tree_at s t) t us refl (λ j n e. one j t n h.0 e) k) (numbers_shared s ts us one h.1 k)
 
 -- a formula taken out on a side
-pub antecedent_removed : (s : Stored) (q : Numbered) (p : Place) (i : ℕ) (vs ts us ids : List ℕ) → p ≡ place.Antecedent i → record { variables = vs; antecedents = ts; consequents = us } ≡ q → ids ≡ remove ts i
-    → IsSequent s q → StandsFor s (without (sequent_at s q) p) (record { variables = vs; antecedents = ids; consequents = us })
-antecedent_removed s q p i vs ts us ids k e f =
-    subst (λ (x : Numbered). IsSequent s x → StandsFor s (without (sequent_at s x) p) (record { variables = vs; antecedents = ids; consequents = us })) e
+pub antecedent_removed : (s : Stored) (q : Numbered) (p : Place) (i : ℕ) (vs : List ℕ) (old new : BothSides) → p ≡ place.Antecedent i → record { variables = vs; antecedents = old.antecedents; consequents = old.consequents } ≡ q → new ≡ record { antecedents = remove old.antecedents i; consequents = old.consequents }
+    → IsSequent s q → StandsFor s (without (sequent_at s q) p) (record { variables = vs; antecedents = new.antecedents; consequents = new.consequents })
+antecedent_removed s q p i vs old new k e f =
+    subst (λ (x : Numbered). IsSequent s x → StandsFor s (without (sequent_at s x) p) (record { variables = vs; antecedents = new.antecedents; consequents = new.consequents })) e
     (λ h. rw (k, f) (record {
-      nodes = record { variables = h.variables; antecedents = nodes_without s ts i h.antecedents; consequents = h.consequents };
-      is = ap (λ (xs : List Tree). record { variables = all_at s vs; antecedents = xs; consequents = all_at s us }) (all_without s ts i);
+      nodes = record { variables = h.variables; antecedents = nodes_without s old.antecedents i h.antecedents; consequents = h.consequents };
+      is = ap (λ (xs : List Tree). record { variables = all_at s vs; antecedents = xs; consequents = all_at s old.consequents }) (all_without s old.antecedents i);
     }))
 
-pub consequent_removed : (s : Stored) (q : Numbered) (p : Place) (i : ℕ) (vs ts us ids : List ℕ) → p ≡ place.Consequent i → record { variables = vs; antecedents = ts; consequents = us } ≡ q → ids ≡ remove us i
-    → IsSequent s q → StandsFor s (without (sequent_at s q) p) (record { variables = vs; antecedents = ts; consequents = ids })
-consequent_removed s q p i vs ts us ids k e f =
-    subst (λ (x : Numbered). IsSequent s x → StandsFor s (without (sequent_at s x) p) (record { variables = vs; antecedents = ts; consequents = ids })) e
+pub consequent_removed : (s : Stored) (q : Numbered) (p : Place) (i : ℕ) (vs : List ℕ) (old new : BothSides) → p ≡ place.Consequent i → record { variables = vs; antecedents = old.antecedents; consequents = old.consequents } ≡ q → new ≡ record { antecedents = old.antecedents; consequents = remove old.consequents i }
+    → IsSequent s q → StandsFor s (without (sequent_at s q) p) (record { variables = vs; antecedents = new.antecedents; consequents = new.consequents })
+consequent_removed s q p i vs old new k e f =
+    subst (λ (x : Numbered). IsSequent s x → StandsFor s (without (sequent_at s x) p) (record { variables = vs; antecedents = new.antecedents; consequents = new.consequents })) e
     (λ h. rw (k, f) (record {
-      nodes = record { variables = h.variables; antecedents = h.antecedents; consequents = nodes_without s us i h.consequents };
-      is = ap (λ (xs : List Tree). record { variables = all_at s vs; antecedents = all_at s ts; consequents = xs }) (all_without s us i);
+      nodes = record { variables = h.variables; antecedents = h.antecedents; consequents = nodes_without s old.consequents i h.consequents };
+      is = ap (λ (xs : List Tree). record { variables = all_at s vs; antecedents = all_at s old.antecedents; consequents = xs }) (all_without s old.consequents i);
     }))

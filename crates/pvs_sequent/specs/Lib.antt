@@ -5,3 +5,4 @@ pub mod Premises
 pub mod Truth
 pub mod Numbered
 pub mod Numbers
+pub mod Counts

@@ -2,11 +2,13 @@
 #![tactic(auto)]
 
 mod closing;
+mod counted;
 mod fault;
 mod list;
 mod place;
 mod premises;
 mod sequent;
+mod sides;
 
 pub use fault::RuleFault;
 pub use list::IdList;

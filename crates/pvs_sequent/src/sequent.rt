@@ -5,10 +5,11 @@ ghost use Rattle.pvs_terms.specs.Stored.{Stored, IsNode, tree_at};
 ghost use Rattle.pvs_sequent.specs.Sequents.{add, formula_at, is_closed, place_of, with_first, without};
 ghost use Rattle.pvs_sequent.specs.Numbers.{HasAdded, IsBefore, IsFormula, IsSequent, StandsFor, sequent_at};
 
-use crate::closing::{close, is_redundant};
+use crate::closing::{is_antecedent, is_consequent, is_redundant, share};
 use crate::list::IdList;
 use crate::place::{Place, Side, place_of};
-use pvs_terms::{Id, Store};
+use crate::sides::Sides;
+use pvs_terms::{Id, Node, Store};
 use std::alloc::{AllocError, Global};
 use std::marker::Model;
 
@@ -19,8 +20,7 @@ use std::marker::Model;
 #[derive(Drop)]
 pub struct Sequent {
     variables: IdList,
-    antecedents: IdList,
-    consequents: IdList,
+    sides: Sides,
 }
 
 impl Model for Sequent {
@@ -28,7 +28,7 @@ impl Model for Sequent {
 
     ghost Value = { Numbered };
 
-    ghost view = { λ q. record { variables = q.variables; antecedents = q.antecedents; consequents = q.consequents } };
+    ghost view = { λ q. record { variables = q.variables; antecedents = q.sides.antecedents; consequents = q.sides.consequents } };
 }
 
 impl Sequent {
@@ -37,12 +37,11 @@ impl Sequent {
         requires { IsNode store.now formula }
         ensures { IfOk result (StandsFor store.now (record { variables = []; antecedents = []; consequents = tree_at store.now formula ∷ [] })) }
     {
-        let mut consequents = IdList::new(alloc);
-        consequents.push_first(formula)?;
+        let mut sides = Sides::new(alloc);
+        sides.push_consequent(formula)?;
         Ok(Sequent {
             variables: IdList::new(alloc),
-            antecedents: IdList::new(alloc),
-            consequents,
+            sides,
         })
     }
 
@@ -52,8 +51,8 @@ impl Sequent {
     {
         match place {
             Place::Nowhere => None,
-            Place::Antecedent(at) => self.antecedents.get(at),
-            Place::Consequent(at) => self.consequents.get(at),
+            Place::Antecedent(at) => self.sides.antecedent(at),
+            Place::Consequent(at) => self.sides.consequent(at),
         }
     }
 
@@ -71,10 +70,10 @@ impl Sequent {
     {
         Ok(Sequent {
             variables: self.variables.copy(alloc)?,
-            antecedents: self.antecedents.copy(alloc)?,
-            consequents: self.consequents.copy(alloc)?,
+            sides: self.sides.copy(alloc)?,
         })
     }
+
     /// Takes out the formula at a place.
     pub fn remove(&mut self, store: &Store, place: Place)
         requires sequent { IsSequent store.now self.old }
@@ -83,12 +82,8 @@ impl Sequent {
     {
         match place {
             Place::Nowhere => {}
-            Place::Antecedent(at) => {
-                let _id = self.antecedents.remove(at);
-            }
-            Place::Consequent(at) => {
-                let _id = self.consequents.remove(at);
-            }
+            Place::Antecedent(at) => self.sides.remove_antecedent(at),
+            Place::Consequent(at) => self.sides.remove_consequent(at),
         }
     }
 
@@ -100,8 +95,8 @@ impl Sequent {
         ensures err { OnErr result (self.new ≡ self.old) }
     {
         match side {
-            Side::Antecedents => self.antecedents.push_first(formula),
-            Side::Consequents => self.consequents.push_first(formula),
+            Side::Antecedents => self.sides.push_antecedent(formula),
+            Side::Consequents => self.sides.push_consequent(formula),
         }
     }
 
@@ -141,10 +136,8 @@ impl Sequent {
         requires { IsSequent store.now self.now }
         ensures { result ≡ is_closed (sequent_at store.now self.now) }
     {
-        close(
-            store,
-            self.antecedents.last_first(),
-            self.consequents.last_first(),
-        )
+        is_antecedent(store, &self.sides, Node::False)
+            || is_consequent(store, &self.sides, Node::True)
+            || share(store, &self.sides)
     }
 }

@@ -7,3 +7,4 @@ pub mod StoredLaws
 pub mod SortLaws
 pub mod DistinctLaws
 pub mod StoreLaws
+pub mod LookupLaws

@@ -3,6 +3,7 @@
 
 mod compare;
 mod fault;
+mod lookup;
 mod measure;
 mod names;
 mod node;
