@@ -13,9 +13,10 @@ ghost use Rattle.pvs_elab.specs.Surface.{PhrasesAreByForms};
 /// it.
 ///
 /// What a phrase answers without a fault, typing accepts with the same type. A finished answer has the type, the conditions
-/// and the symbols that typing gives on its tree, and a fault is one that elaboration met: the last call of typing never
-/// refuses. So it is with declarations. A formula is a truth value under its free VARs, over which it is closed. The names of a place in a development are known to typing. What a surface tree says
-/// is told form by form.
+/// and the symbols that typing gives on its tree, and its fault is one that elaboration met: the last call of typing never
+/// refuses the tree. The same holds of declarations. A formula is a truth value under its free VARs, and its tree is its
+/// closure over them. The names of a place in a development are known to typing. The last clause lists what each form of a
+/// surface tree says.
 pub fn elaboration_is_typed()
     ensures parts { ElaborationIsTyped }
     ensures answers { AnswersAreTyped }

@@ -1,15 +1,15 @@
 -- Laws of names.
-use Rattle.std.specs.Prelude.{◌≡◌, ◌⊎◌, ℕ, Bool, if◌then◌else◌, Option, Some, List, [], ◌∷◌, ◌++◌, Result, Ok, Err}
+use Rattle.std.specs.Prelude.{◌≡◌, ◌⊎◌, ℕ, Bool, if◌then◌else◌, Option, Some, List, [], ◌∷◌, ◌++◌, Result, Ok, Err, suc, ◌≤◌, length}
 use Rattle.pvs_base.specs.declared.code.Code.{Code}
 use Rattle.pvs_base.specs.declared.code.Code.TheVariants.{Unknown, Ambiguous}
-use Rattle.pvs_terms.specs.Tree.{Text, Ref}
-use Rattle.pvs_sig.specs.Signature.{Signature, Kind}
+use Rattle.pvs_terms.specs.Tree.{Text, Ref, Own}
+use Rattle.pvs_sig.specs.Signature.{Signature, Entry, Import, Kind}
 use Rattle.pvs_sig.specs.Development.{Development, In, kind_of}
 use Rattle.pvs_sig.specs.Scope.{scope}
 use Rattle.pvs_names.specs.declared.kind.NameKind.{NameKind}
 use Rattle.pvs_names.specs.declared.kind.NameKind.TheVariants.{FormulaName}
 use Rattle.pvs_names.specs.Members.{Member, is_called, find, member_of, name_kind}
-use Rattle.pvs_names.specs.Resolve.{Qualifier, find_plain, is_own, is_imported, or_else, resolve}
+use Rattle.pvs_names.specs.Resolve.{Qualifier, find_plain, is_own, is_imported, or_else, resolve, visible_members}
 
 -- what an index keeps for a kind and a name, after one more member of them: nothing, then one, then several
 abbrev pub one_more : Result Ref Code → Ref → Result Ref Code
@@ -47,3 +47,12 @@ ResolvedAreNamed = (d : Development) (s : Signature) (i : ℕ) (kind : NameKind)
 abbrev pub ResolvedHaveKinds : Type 0
 ResolvedHaveKinds = (d : Development) (s : Signature) (i : ℕ) (kind : NameKind) (q : Option Qualifier) (name : Text) (r : Ref)
     → resolve d s i kind q name ≡ Ok r → (k : Kind) × (kind_of d s r ≡ Some k) × (name_kind k ≡ kind)
+
+-- the signature with one more entry
+abbrev pub with_entry : Signature → Entry → Signature
+with_entry s e = record { name = s.name; formals = s.formals; entries = s.entries ++ e ∷ []; imports = s.imports }
+
+-- the place after a new entry sees one more member, that of the entry
+abbrev pub MembersGrow : Type 0
+MembersGrow = (d : Development) (s : Signature) (e : Entry) → ((x : Import) → In x s.imports → x.place ≤ length s.entries)
+    → visible_members d (with_entry s e) (suc (length s.entries)) ≡ visible_members d s (length s.entries) ++ record { name = e.name; kind = name_kind e.kind; reference = Own (length s.entries) } ∷ []

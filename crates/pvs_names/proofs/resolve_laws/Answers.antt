@@ -1,3 +1,4 @@
+use Rattle.pvs_names.proofs.GrowthLaws.{members_grow}
 use Rattle.pvs_names.proofs.FindLaws.{resolved_is, resolved_kind}
 use Rattle.pvs_names.proofs.resolve_laws.Goals as goal
 
@@ -9,3 +10,6 @@ returns-clause-named c = λ d s i kind q name r e. (resolved_is d s i kind name 
 
 pub returns-clause-kinds : goal.returns-clause-kinds
 returns-clause-kinds c = λ d s i kind q name r e. resolved_kind d s i kind name r q e
+
+pub returns-clause-growth : goal.returns-clause-growth
+returns-clause-growth c = members_grow
