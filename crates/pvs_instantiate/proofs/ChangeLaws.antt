@@ -1,25 +1,21 @@
 -- What stands after a theory is added, is taken out, or grows.
-use Rattle.std.proofs.Common.{◌≡◌, ◌≤◌, ◌<◌, ◌+◌, inl, inr, ◌⊎◌, ℕ, zero, suc, List, [], ◌∷◌, ◌++◌, None, Some, length, slice_get, remove, refl, sym, ap, ap₂, ◌∙◌, subst, map, Contains, arith}
-use Rattle.std.specs.Prelude.{bytes_eq, false}
-use Rattle.indexmap.specs.IndexMap.{set_value_at}
+use Rattle.std.proofs.Common.{◌≡◌, ◌≤◌, ◌<◌, ◌+◌, inl, inr, ◌⊎◌, ℕ, zero, suc, List, [], ◌∷◌, ◌++◌, None, Some, length, slice_get, remove, refl, sym, ap, ◌∙◌, subst, map, Contains, arith}
 use Rattle.pvs_terms.specs.Tree.{Text}
 use Rattle.pvs_terms.specs.Stored.{Stored, text_at}
-use Rattle.pvs_cache.specs.Kept.{Pairs}
 use Rattle.pvs_cache.specs.declared.key.JudgeKey.{JudgeKey}
 use Rattle.pvs_sig.specs.declared.signature.Signature as numbers
-use Rattle.pvs_sig.specs.Signature.{Signature}
 use Rattle.pvs_sig.specs.SignatureAt.{signature_at, SignatureIn, AllIn}
-use Rattle.pvs_sig.specs.Development.{Development, theory_named, IsDevelopment, IsSignatureOver, In}
-use Rattle.pvs_sig.specs.Laws.{without, Avoids}
+use Rattle.pvs_sig.specs.Development.{theory_named, IsDevelopment, IsSignatureOver, In}
+use Rattle.pvs_sig.specs.Laws.{without}
 use Rattle.pvs_sig.proofs.SignatureAtLaws.{all_in}
 use Rattle.pvs_sig.proofs.RemovalLaws.{removal_stands}
 use Rattle.pvs_instantiate.specs.declared.theories.Theory.{Theory}
-use Rattle.pvs_instantiate.specs.Standing.{Entries, AreNamed, StampsDiffer, entry_signature, entry_stamp, signatures, theories_after, numbered}
+use Rattle.pvs_instantiate.specs.Standing.{Entries, StampsDiffer, entry_signature, entry_stamp, signatures, theories_after, numbered}
 use Rattle.pvs_instantiate.specs.InstancesView.{InstancesView, development, stamps}
 use Rattle.pvs_instantiate.specs.Soundness.{IsValue, HasValues, AreStanding, IsSound}
 use Rattle.pvs_instantiate.specs.Grown.{IsAlone, IsNewStamp}
 use Rattle.pvs_instantiate.proofs.ListLaws.{all_append, all_remove, all_get}
-use Rattle.pvs_instantiate.proofs.TheoryLaws.{after_append, without_at, without_none}
+use Rattle.pvs_instantiate.proofs.TheoryLaws.{after_append, without_at}
 use Rattle.pvs_instantiate.proofs.NumberedLaws.{numbered_named, numbered_stored, numbered_signatures, numbered_below, numbered_differ}
 use Rattle.pvs_instantiate.proofs.LookupLaws.{signature_found}
 

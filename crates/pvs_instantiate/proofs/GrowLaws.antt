@@ -1,28 +1,25 @@
 -- What stands after a theory has grown.
-use Rattle.std.proofs.Common.{◌≡◌, ◌≤◌, inl, inr, ◌⊎◌, ℕ, zero, suc, Option, None, Some, List, [], ◌∷◌, ◌++◌, slice_get, remove, refl, sym, ap, ap₂, ◌∙◌, subst, map, Contains}
+use Rattle.std.proofs.Common.{◌≡◌, ◌≤◌, inl, inr, ◌⊎◌, ℕ, zero, suc, Option, None, Some, List, [], ◌∷◌, ◌++◌, slice_get, remove, refl, sym, ap, ap₂, ◌∙◌, subst, map}
 use Rattle.std.specs.Prelude.{option_map}
 use Rattle.std.proofs.lemmas.Option.{slice_get-map}
 use Rattle.indexmap.specs.IndexMap.{set_value_at}
 use Rattle.pvs_terms.specs.Tree.{Tree, Text, Inst}
 use Rattle.pvs_terms.specs.Stored.{Stored, text_at, tree_at}
-use Rattle.pvs_cache.specs.Kept.{Pairs}
 use Rattle.pvs_cache.specs.declared.key.JudgeKey.{JudgeKey}
-use Rattle.pvs_sig.specs.declared.signature.Signature as numbers
 use Rattle.pvs_sig.specs.declared.signature.FormalSig as numbers_formal
 use Rattle.pvs_sig.specs.declared.signature.Entry as numbers_entry
 use Rattle.pvs_sig.specs.declared.signature.Import as numbers_import
-use Rattle.pvs_sig.specs.Signature.{Signature, Entry, FormalSig, Import, Kind, entry_kind, kind_at, instantiate_found}
+use Rattle.pvs_sig.specs.Signature.{Signature, Entry, Kind, entry_kind, kind_at, instantiate_found}
 use Rattle.pvs_sig.specs.SignatureAt.{signature_at, formal_sig_at, entry_at, import_at, SignatureIn, FormalIn, EntryIn, ImportIn, AllIn}
-use Rattle.pvs_sig.specs.Development.{Development, theory_named, IsDevelopment, IsSignatureOver, In}
+use Rattle.pvs_sig.specs.Development.{theory_named, IsDevelopment, IsSignatureOver, In}
 use Rattle.pvs_sig.specs.Laws.{without}
-use Rattle.pvs_sig.proofs.SignatureAtLaws.{all_in}
 use Rattle.pvs_sig.proofs.RemovalLaws.{removal_stands}
 use Rattle.pvs_instantiate.specs.declared.theories.Theory.{Theory}
-use Rattle.pvs_instantiate.specs.Standing.{Entries, AreNamed, StampsDiffer, entry_signature, entry_stamp, signatures, theories_after}
+use Rattle.pvs_instantiate.specs.Standing.{Entries, StampsDiffer, entry_signature, entry_stamp, signatures, theories_after}
 use Rattle.pvs_instantiate.specs.InstancesView.{InstancesView, development, stamps}
 use Rattle.pvs_instantiate.specs.Parts.{part_tree}
-use Rattle.pvs_instantiate.specs.Soundness.{IsValue, HasValues, AreStanding, IsSound}
-use Rattle.pvs_instantiate.specs.Grown.{IsAlone, MayGrow, MayBecome, grown, become, with_formal, with_entry, with_import, SameStamps, IsMoved, IsSet}
+use Rattle.pvs_instantiate.specs.Soundness.{IsValue, HasValues, IsSound}
+use Rattle.pvs_instantiate.specs.Grown.{IsAlone, MayGrow, MayBecome, grown, become, with_formal, with_entry, with_import, SameStamps, IsSet}
 use Rattle.pvs_instantiate.specs.Changes.{AddsFormal, AddsEntry, AddsImport, IsSameTheory}
 use Rattle.pvs_instantiate.proofs.ListLaws.{all_append, all_remove, all_get}
 use Rattle.pvs_instantiate.proofs.TheoryLaws.{without_none}

@@ -1,5 +1,5 @@
 -- What holds of each item of a list, after the list is changed.
-use Rattle.std.proofs.Common.{◌≡◌, ℕ, zero, suc, ◌<◌, ◌-◌, List, [], ◌∷◌, ◌++◌, Some, length, slice_get, refl, sym, ap, ap₂, ◌∙◌, subst, map, remove, insert, arith}
+use Rattle.std.proofs.Common.{◌≡◌, ℕ, zero, suc, ◌<◌, ◌-◌, List, [], ◌∷◌, ◌++◌, Some, length, slice_get, refl, ap, ap₂, ◌∙◌, subst, map, remove, insert, arith}
 use Rattle.std.specs.Prelude.{Result, Ok, Err, OnErr}
 use Rattle.std.specs.Map.{keys_of, values_of}
 use Rattle.std.specs.Option.{option_map_or}

@@ -1,8 +1,8 @@
 -- The parts of entries, of formals and of entries of instances.
-use Rattle.std.proofs.Common.{◌≡◌, ◌≤◌, inl, inr, ◌⊎◌, ℕ, zero, suc, Option, None, Some, List, [], ◌∷◌, slice_get, refl, sym, ap, ap₂, ◌∙◌, subst, Contains, arith}
+use Rattle.std.proofs.Common.{◌≡◌, ◌≤◌, inl, inr, ◌⊎◌, ℕ, Option, None, Some, [], ◌∷◌, slice_get, refl, sym, ap, ap₂, ◌∙◌, subst, Contains}
 use Rattle.std.specs.Map.{keys_of, values_of}
 use Rattle.pvs_terms.specs.Tree.{Text, Tree, Ref, Own, Formal, Inst, Trees, ref_actuals, IsWithinLimits}
-use Rattle.pvs_terms.specs.Stored.{Stored, tree_at, ref_at, text_at, IsRef, IsNode, Stands, Extends}
+use Rattle.pvs_terms.specs.Stored.{Stored, tree_at, ref_at, text_at, IsRef, Stands, Extends}
 use Rattle.pvs_terms.specs.declared.shape.Sort.{Sort}
 use Rattle.pvs_terms.specs.declared.shape.Sort.TheVariants.{OfType, OfTerm}
 use Rattle.pvs_subst.specs.Instance.{instantiate, HasActuals}
@@ -11,19 +11,19 @@ use Rattle.pvs_cache.specs.declared.key.JudgeKey.{JudgeKey}
 use Rattle.pvs_cache.specs.declared.key.Part.{Part}
 use Rattle.pvs_cache.specs.declared.key.Part.TheVariants as part
 use Rattle.pvs_sig.specs.Signature.{Signature, Kind, TypeSig, ConstSig, VarSig, FormulaSig, kind_at, formal_at, kind_in, formals_in, instantiate_found}
-use Rattle.pvs_sig.specs.SignatureAt.{option_at, signature_at, SignatureIn, AllIn, OptionIn}
-use Rattle.pvs_sig.specs.Development.{Development, theory_named, kind_of, IsRefOver, IsKindOver, IsTreeOver, IsSignatureOver, IsDevelopment, MatchFormals}
+use Rattle.pvs_sig.specs.SignatureAt.{option_at, signature_at, AllIn}
+use Rattle.pvs_sig.specs.Development.{Development, theory_named, kind_of, IsRefOver, IsKindOver, IsTreeOver, IsSignatureOver, MatchFormals}
 use Rattle.pvs_sig.proofs.SignatureAtLaws.{signature_same}
 use Rattle.pvs_sig.proofs.DeclaredLaws.{has_actuals}
 use Rattle.pvs_sig.proofs.DevelopmentLaws.{theory_stands}
 use Rattle.pvs_instantiate.specs.declared.theories.Theory.{Theory}
-use Rattle.pvs_instantiate.specs.Standing.{Entries, StampsDiffer, signatures, theories_after}
-use Rattle.pvs_instantiate.specs.Parts.{part_tree, kind_by, instance_kind, IsRefBy, GivesOption, GivesTree, PassesLimit}
+use Rattle.pvs_instantiate.specs.Standing.{Entries}
+use Rattle.pvs_instantiate.specs.Parts.{part_tree, kind_by, instance_kind, IsRefBy, GivesOption, PassesLimit}
 use Rattle.pvs_instantiate.specs.KeptTrees.{FindsTree, KeepsTree}
 use Rattle.pvs_instantiate.specs.InstancesView.{InstancesView, development, Leaves}
 use Rattle.pvs_instantiate.specs.Soundness.{IsValue, HasValues, IsSound}
 use Rattle.pvs_instantiate.proofs.ListLaws.{all_get}
-use Rattle.pvs_instantiate.proofs.LookupLaws.{IsFound, found_at, theory_found}
+use Rattle.pvs_instantiate.proofs.LookupLaws.{found_at, theory_found}
 use Rattle.pvs_instantiate.proofs.ChangeLaws.{differ_one}
 use Rattle.pvs_instantiate.proofs.SoundLaws.{is_later}
 

@@ -1,5 +1,5 @@
 -- What the calls that change the theories, and those that give a part, leave and give.
-use Rattle.std.proofs.Common.{◌≡◌, inl, inr, ℕ, zero, suc, Bool, true, false, cond, Option, None, Some, List, [], ◌∷◌, ◌++◌, slice_get, remove, refl, sym, ap, ap₂, ◌∙◌, subst}
+use Rattle.std.proofs.Common.{◌≡◌, ℕ, zero, suc, Bool, true, false, cond, Option, None, Some, [], ◌∷◌, ◌++◌, slice_get, remove, refl, sym, ap, ◌∙◌, subst}
 use Rattle.std.specs.Prelude.{bytes_eq, Result, Ok, Err, OnOk, OnErr}
 use Rattle.std.specs.Map.{keys_of}
 use Rattle.pvs_terms.specs.Tree.{Tree, Text}

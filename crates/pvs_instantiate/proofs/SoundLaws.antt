@@ -1,19 +1,18 @@
 -- What stands as the store grows, and as pairs are kept and forgotten.
-use Rattle.std.proofs.Common.{◌≡◌, ◌≤◌, ◌⊎◌, inl, inr, ℕ, List, [], ◌∷◌, Some, refl, sym, ap, ap₂, subst, ◌∙◌, map, Contains}
+use Rattle.std.proofs.Common.{◌≡◌, ◌⊎◌, inl, inr, ℕ, [], ◌∷◌, Some, refl, sym, ap, ap₂, subst, ◌∙◌, map, Contains}
 use Rattle.pvs_terms.specs.Tree.{Tree, Inst}
-use Rattle.pvs_terms.specs.Stored.{Stored, Extends, Stands, tree_at, text_at}
+use Rattle.pvs_terms.specs.Stored.{Stored, Extends, Stands}
 use Rattle.pvs_cache.specs.Kept.{Pairs, KeepsOnly, AddsOnly}
 use Rattle.pvs_cache.specs.declared.key.JudgeKey.{JudgeKey}
 use Rattle.pvs_sig.specs.declared.signature.Signature as numbers
 use Rattle.pvs_sig.specs.Signature.{kind_at, instantiate_found}
-use Rattle.pvs_sig.specs.SignatureAt.{signature_at, SignatureIn, AllIn}
+use Rattle.pvs_sig.specs.SignatureAt.{SignatureIn, AllIn}
 use Rattle.pvs_sig.specs.Development.{IsDevelopment}
 use Rattle.pvs_sig.proofs.SignatureAtLaws.{signature_in, signature_same, all_in}
-use Rattle.pvs_instantiate.specs.declared.theories.Theory.{Theory}
-use Rattle.pvs_instantiate.specs.Standing.{Entries, entry_signature, entry_stamp, signatures, theories_after}
+use Rattle.pvs_instantiate.specs.Standing.{Entries, entry_stamp, signatures, theories_after}
 use Rattle.pvs_instantiate.specs.KeptTrees.{KeepsTree}
 use Rattle.pvs_instantiate.specs.Parts.{part_tree}
-use Rattle.pvs_instantiate.specs.InstancesView.{InstancesView, development, stamps, Leaves}
+use Rattle.pvs_instantiate.specs.InstancesView.{InstancesView, Leaves}
 use Rattle.pvs_instantiate.specs.Soundness.{IsValue, HasValues, AreStanding, IsSound}
 
 module _ (s t : Stored) (later : Extends s t) where

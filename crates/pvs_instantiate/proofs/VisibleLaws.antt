@@ -1,5 +1,5 @@
 -- A theory without importings sees no instance.
-use Rattle.std.proofs.Common.{◌≡◌, ℕ, Option, Some, None, [], refl, sym, ap}
+use Rattle.std.proofs.Common.{◌≡◌, ℕ, Option, Some, None, [], refl, ap}
 use Rattle.pvs_sig.specs.Signature.{Signature}
 use Rattle.pvs_sig.specs.Development.{Development}
 use Rattle.pvs_sig.specs.Instances.{first_instances, instances_up_to, all_instances}

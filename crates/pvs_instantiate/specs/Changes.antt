@@ -1,6 +1,5 @@
 -- How a theory by number changes.
 use Rattle.std.specs.Prelude.{◌≡◌, [], ◌∷◌, ◌++◌}
-use Rattle.pvs_sig.specs.declared.signature.Signature as numbers
 use Rattle.pvs_sig.specs.declared.signature.FormalSig as numbers_formal
 use Rattle.pvs_sig.specs.declared.signature.Entry as numbers_entry
 use Rattle.pvs_sig.specs.declared.signature.Import as numbers_import

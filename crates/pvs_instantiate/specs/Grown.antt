@@ -1,5 +1,5 @@
 -- A theory that stands with one formal, entry or importing more, and what no other theory mentions.
-use Rattle.std.specs.Prelude.{◌≡◌, ◌⊎◌, ◌<◌, ℕ, Option, Some, None, List, [], ◌∷◌, ◌++◌, remove, slice_get, false, bytes_eq, Contains}
+use Rattle.std.specs.Prelude.{◌≡◌, ◌⊎◌, ◌<◌, ℕ, Option, Some, None, [], ◌∷◌, ◌++◌, remove, slice_get, false, bytes_eq, Contains}
 use Rattle.indexmap.specs.IndexMap.{set_value_at}
 use Rattle.pvs_terms.specs.Tree.{Text}
 use Rattle.pvs_cache.specs.declared.key.JudgeKey.{JudgeKey}

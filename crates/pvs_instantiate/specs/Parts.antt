@@ -1,13 +1,12 @@
 -- The tree of a reference that is asked for: its type, its body or its formula, by what the reference is (CSL-97-2,
 -- where a formal in an instance of a theory is replaced by its actual).
-use Rattle.std.specs.Prelude.{◌≡◌, Option, Some, None, ℕ}
-use Rattle.pvs_terms.specs.Tree.{Text, Tree, Ref, Own, Formal, Inst, Trees, IsWithinLimits}
+use Rattle.std.specs.Prelude.{Option, Some, None, ℕ}
+use Rattle.pvs_terms.specs.Tree.{Text, Tree, Ref, Trees, IsWithinLimits}
 use Rattle.pvs_terms.specs.Stored.{Stored, Stands}
-use Rattle.pvs_terms.specs.declared.shape.Sort.{Sort}
-use Rattle.pvs_terms.specs.declared.shape.Sort.TheVariants.{OfType, OfTerm}
+use Rattle.pvs_terms.specs.declared.shape.Sort.TheVariants.{OfTerm}
 use Rattle.pvs_cache.specs.declared.key.Part.{Part}
 use Rattle.pvs_cache.specs.declared.key.Part.TheVariants as part
-use Rattle.pvs_sig.specs.Signature.{Signature, Kind, TypeSig, ConstSig, VarSig, FormulaSig, kind_in, instantiate_found}
+use Rattle.pvs_sig.specs.Signature.{Signature, Kind, TypeSig, ConstSig, FormulaSig, kind_in, instantiate_found}
 use Rattle.pvs_sig.specs.Development.{Development, theory_named, kind_of, IsRefOver, HasSort}
 use Rattle.pvs_sig.specs.LookupsOf.{constant_type}
 

@@ -12,7 +12,7 @@ use Rattle.pvs_sig.specs.Development.{IsDevelopment}
 use Rattle.pvs_instantiate.specs.declared.theories.Theory.{Theory}
 use Rattle.pvs_instantiate.specs.Standing.{Entries, AreNamed, StampsDiffer, signatures, theories_after}
 use Rattle.pvs_instantiate.specs.Parts.{part_tree}
-use Rattle.pvs_instantiate.specs.InstancesView.{InstancesView, development}
+use Rattle.pvs_instantiate.specs.InstancesView.{InstancesView}
 
 -- the pair is the part of an entry of an instance of this theory: the theory's tree with the actuals in place of the formals
 pub record IsValue (s : Stored) (g : numbers.Signature) (p : JudgeKey × ℕ) : Type 0 where

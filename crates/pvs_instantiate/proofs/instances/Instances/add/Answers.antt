@@ -75,8 +75,7 @@ returns-clause-others g c = λ h.
     let new = ap₂ (λ d s. theory_named d (text_at s c.args.signature.name)) dev store ∙ c.requires.new in
     let stored = subst (λ s. SignatureIn s c.args.signature) (sym store) c.requires.stored in
     let over = subst (λ d. IsSignatureOver d (signature_at c.self.inside.store c.args.signature)) (sym dev) (subst (λ s. IsSignatureOver (development c.args.self.now) (signature_at s c.args.signature)) (sym store) c.requires.over) in
-    let same = c.self.view_is ∙ c.leave_stamp.ensures.same h in
-    (
+    let same = c.self.view_is ∙ c.leave_stamp.ensures.same h in (
       ap (λ l. map (entry_stamp c.self.inside.store) l) c.in_ok-push.ensures.ok ∙ added_stamps v c.args.signature (c.self.inside.last_stamp + 1) c.self.invariant stored new over refl ∙ ap (λ z. stamps z ++ (text_at z.store c.args.signature.name, c.self.inside.last_stamp + 1) ∷ []) same,
       ap (λ z. z.kept) same,
     )
@@ -90,8 +89,7 @@ returns-clause-anew g c = λ h.
     let stored = subst (λ s. SignatureIn s c.args.signature) (sym store) c.requires.stored in
     let over = subst (λ d. IsSignatureOver d (signature_at c.self.inside.store c.args.signature)) (sym dev) (subst (λ s. IsSignatureOver (development c.args.self.now) (signature_at s c.args.signature)) (sym store) c.requires.over) in
     let anew = c.leave_stamp.ensures.anew h in
-    let numbers = ap₂ (λ s l. map (entry_stamp s) l) store (ap (λ z. z.entries) c.self.view_is ∙ anew.1) in
-    (
+    let numbers = ap₂ (λ s l. map (entry_stamp s) l) store (ap (λ z. z.entries) c.self.view_is ∙ anew.1) in (
       ap (λ l. map (entry_stamp c.self.inside.store) l) c.in_ok-push.ensures.ok ∙ added_stamps v c.args.signature (c.self.inside.last_stamp + 1) c.self.invariant stored new over refl ∙ ap₂ (λ l s. l ++ (text_at s c.args.signature.name, c.self.inside.last_stamp + 1) ∷ []) numbers store,
       ap (λ z. z.kept) c.self.view_is ∙ anew.0,
     )

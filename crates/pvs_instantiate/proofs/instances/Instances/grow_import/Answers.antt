@@ -1,15 +1,12 @@
-use Rattle.std.proofs.Common.{◌≡◌, Some, slice_get, sym, subst, ap}
+use Rattle.std.proofs.Common.{◌≡◌, Some, slice_get, sym, subst}
 use Rattle.std.specs.Map.{keys_of}
 use Rattle.pvs_terms.specs.Stored.{text_at}
 use Rattle.pvs_sig.specs.SignatureAt.{import_at, ImportIn}
-use Rattle.pvs_sig.specs.Laws.{without}
-use Rattle.pvs_sig.specs.Development.{theory_named}
 use Rattle.pvs_instantiate.specs.InstancesView.{InstancesView, development}
 use Rattle.pvs_instantiate.specs.Grown.{IsAlone, MayGrow, with_import}
 use Rattle.pvs_instantiate.specs.Changes.{AddsImport}
-use Rattle.pvs_instantiate.proofs.ListLaws.{key_within}
 use Rattle.pvs_instantiate.proofs.GrowLaws.{adds_import}
-use Rattle.pvs_instantiate.proofs.RestLaws.{grow_sound, grow_stamps, grow_ok, grow_err, cannot_grow}
+use Rattle.pvs_instantiate.proofs.RestLaws.{grow_sound, grow_stamps, grow_ok, grow_err}
 use Rattle.pvs_instantiate.proofs.instances.Instances.grow_import.Goals as goal
 
 pub invariant_of-self : goal.invariant_of-self

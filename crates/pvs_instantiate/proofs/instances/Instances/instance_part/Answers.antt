@@ -1,15 +1,13 @@
 use Rattle.std.proofs.Common.{◌≡◌, rules, Some, slice_get, sym, subst}
-use Rattle.std.specs.Map.{keys_of, values_of}
+use Rattle.std.specs.Map.{keys_of}
 use Rattle.pvs_terms.specs.Tree.{Inst, ref_actuals}
-use Rattle.pvs_terms.specs.Stored.{tree_at, ref_at, text_at, IsName, IsRef}
-use Rattle.pvs_sig.specs.Signature.{kind_at, formals_in}
-use Rattle.pvs_sig.specs.SignatureAt.{signature_at}
+use Rattle.pvs_terms.specs.Stored.{ref_at, text_at, IsName, IsRef}
+use Rattle.pvs_sig.specs.Signature.{formals_in}
 use Rattle.pvs_sig.specs.Development.{theory_named, MatchFormals}
-use Rattle.pvs_instantiate.specs.InstancesView.{InstancesView, development, Leaves}
-use Rattle.pvs_instantiate.specs.Parts.{part_tree, instance_kind, GivesOption, PassesLimit}
+use Rattle.pvs_instantiate.specs.InstancesView.{InstancesView, development}
 use Rattle.pvs_instantiate.proofs.ListLaws.{key_within, pair_at}
 use Rattle.pvs_instantiate.proofs.LookupLaws.{found_at}
-use Rattle.pvs_instantiate.proofs.PartLaws.{finds, formals_have, sound_after, leaves_after, gives_made, passes_made, no_instance, no_part}
+use Rattle.pvs_instantiate.proofs.PartLaws.{finds, formals_have, sound_after, leaves_after, gives_made, passes_made, no_part}
 use Rattle.pvs_instantiate.proofs.instances.Instances.instance_part.Goals as goal
 
 pub theory-found-requires : goal.theory-found-requires

@@ -1,4 +1,4 @@
-use Rattle.std.proofs.Common.{◌≡◌, None, Some, slice_get, sym, subst}
+use Rattle.std.proofs.Common.{◌≡◌, Some, slice_get, sym, subst}
 use Rattle.std.specs.Map.{keys_of}
 use Rattle.pvs_terms.specs.Tree.{Own}
 use Rattle.pvs_terms.specs.Stored.{text_at}

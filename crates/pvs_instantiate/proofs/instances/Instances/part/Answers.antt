@@ -1,11 +1,9 @@
-use Rattle.std.proofs.Common.{◌≡◌, sym, subst, ap, ◌∙◌}
-use Rattle.pvs_terms.specs.Tree.{Own, Formal, Inst, ref_actuals}
+use Rattle.std.proofs.Common.{◌≡◌, subst}
+use Rattle.pvs_terms.specs.Tree.{Inst, ref_actuals}
 use Rattle.pvs_terms.specs.Stored.{ref_at, text_at}
 use Rattle.pvs_sig.specs.Development.{theory_named}
-use Rattle.pvs_instantiate.specs.InstancesView.{InstancesView, development, Leaves}
-use Rattle.pvs_instantiate.specs.Parts.{part_tree, kind_by, GivesOption, PassesLimit}
-use Rattle.pvs_instantiate.proofs.PartLaws.{over_some, kind_instance}
-use Rattle.pvs_instantiate.proofs.RestLaws.{leaves_same}
+use Rattle.pvs_instantiate.specs.InstancesView.{development}
+use Rattle.pvs_instantiate.proofs.PartLaws.{over_some}
 use Rattle.pvs_instantiate.proofs.instances.Instances.part.Goals as goal
 
 pub instance_part-requires-clause-formals : goal.instance_part-requires-clause-formals

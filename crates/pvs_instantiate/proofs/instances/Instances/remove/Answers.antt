@@ -1,4 +1,4 @@
-use Rattle.std.proofs.Common.{◌≡◌, Some, [], slice_get, remove, sym, subst, ap, ◌∙◌}
+use Rattle.std.proofs.Common.{◌≡◌, Some, [], slice_get, sym, subst, ap, ◌∙◌}
 use Rattle.std.specs.Map.{keys_of}
 use Rattle.pvs_terms.specs.Stored.{text_at}
 use Rattle.pvs_sig.specs.Development.{theory_named}
@@ -6,7 +6,7 @@ use Rattle.pvs_instantiate.specs.Standing.{signatures, theories_after}
 use Rattle.pvs_instantiate.specs.InstancesView.{InstancesView, development}
 use Rattle.pvs_instantiate.specs.Soundness.{IsSound}
 use Rattle.pvs_instantiate.specs.Grown.{IsAlone}
-use Rattle.pvs_instantiate.proofs.ListLaws.{key_within, pair_at}
+use Rattle.pvs_instantiate.proofs.ListLaws.{pair_at}
 use Rattle.pvs_instantiate.proofs.RestLaws.{is_removed, without_absent}
 use Rattle.pvs_instantiate.proofs.instances.Instances.remove.Goals as goal
 

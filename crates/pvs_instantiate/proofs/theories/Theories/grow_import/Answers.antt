@@ -1,4 +1,4 @@
-use Rattle.std.proofs.Common.{◌≡◌, length, sym, refl, ap, subst, arith}
+use Rattle.std.proofs.Common.{length, refl, ap, subst, arith}
 use Rattle.indexmap.specs.IndexMap.{set_value_at}
 use Rattle.pvs_instantiate.specs.Grown.{IsMoved, IsSet}
 use Rattle.pvs_instantiate.specs.Changes.{AddsImport, IsSameTheory}
