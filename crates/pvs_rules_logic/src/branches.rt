@@ -54,6 +54,44 @@ fn closes_with(store: &Store, sequent: &mut Sequent, branch: &Branch) -> Result<
     Ok(closed)
 }
 
+/// The premise of one branch on a sequent, unless the rule axiom closes it.
+fn one_premise(
+    alloc: Global,
+    store: &Store,
+    mut sequent: Sequent,
+    branch: &Branch,
+) -> Result<Vec<Sequent>, AllocError>
+    requires sequent { IsSequent store.now sequent }
+    requires branch { IsBranch store.now branch.now }
+    ensures { IfOk result (λ v. StandForAll store.now (still_open (with_branch store.now branch.now (sequent_at store.now sequent) ∷ [])) v.items) }
+{
+    let mut premises = Vec::new(alloc);
+    add_branch(store, &mut sequent, branch)?;
+    push_open(store, &mut premises, sequent)?;
+    Ok(premises)
+}
+
+/// The premises of two branches on a sequent, but for those that the rule axiom closes. This copies
+/// the sequent.
+fn two_premises(
+    alloc: Global,
+    store: &Store,
+    sequent: Sequent,
+    first: &Branch,
+    second: &Branch,
+) -> Result<Vec<Sequent>, AllocError>
+    requires sequent { IsSequent store.now sequent }
+    requires first { IsBranch store.now first.now }
+    requires second { IsBranch store.now second.now }
+    ensures { IfOk result (λ v. StandForAll store.now (still_open (with_branch store.now first.now (sequent_at store.now sequent) ∷ with_branch store.now second.now (sequent_at store.now sequent) ∷ [])) v.items) }
+{
+    let mut other = sequent.copy(alloc)?;
+    let mut premises = one_premise(alloc, store, sequent, first)?;
+    add_branch(store, &mut other, second)?;
+    push_open(store, &mut premises, other)?;
+    Ok(premises)
+}
+
 /// The premises of two branches on a sequent, but for those that the rule axiom closes. The sequent
 /// is copied only where both stay open.
 pub fn fork(
@@ -68,21 +106,11 @@ pub fn fork(
     requires second { IsBranch store.now second.now }
     ensures { IfOk result (λ v. StandForAll store.now (still_open (with_branch store.now first.now (sequent_at store.now sequent) ∷ with_branch store.now second.now (sequent_at store.now sequent) ∷ [])) v.items) }
 {
-    let mut premises = Vec::new(alloc);
     if closes_with(store, &mut sequent, first)? {
-        add_branch(store, &mut sequent, second)?;
-        push_open(store, &mut premises, sequent)?;
-        return Ok(premises);
+        return one_premise(alloc, store, sequent, second);
     }
     if closes_with(store, &mut sequent, second)? {
-        add_branch(store, &mut sequent, first)?;
-        premises.push(sequent)?;
-        return Ok(premises);
+        return one_premise(alloc, store, sequent, first);
     }
-    let mut other = sequent.copy(alloc)?;
-    add_branch(store, &mut sequent, first)?;
-    premises.push(sequent)?;
-    add_branch(store, &mut other, second)?;
-    premises.push(other)?;
-    Ok(premises)
+    two_premises(alloc, store, sequent, first, second)
 }
