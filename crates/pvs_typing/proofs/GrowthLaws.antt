@@ -3,12 +3,11 @@ use Rattle.std.proofs.Common.{◌≡◌, ℕ, zero, suc, List, [], ◌∷◌, re
 use Rattle.pvs_terms.specs.Tree.{Tree, Leaf, Var, Name, Bind, Join, Project, If, Ref}
 use Rattle.pvs_terms.specs.declared.shape.Sort.{Sort}
 use Rattle.pvs_terms.specs.Sorts.{sort_of}
-use Rattle.pvs_terms.specs.Stored.{Stored, tree_at, IsNode, IsName, Extends}
+use Rattle.pvs_terms.specs.Stored.{Stored, tree_at, Extends}
 use Rattle.pvs_terms.proofs.StoredLaws.{extends_trans}
 use Rattle.pvs_subst.specs.Replace.{lift, put_var, put_at, put_in}
 use Rattle.pvs_subst.specs.declared.context.Assumed.{Assumed}
 use Rattle.pvs_subst.specs.declared.context.Assumed.TheVariants as assumed
-use Rattle.pvs_subst.specs.Contexts.{context_at, IsContext}
 use Rattle.pvs_sig.specs.Lookups.{Lookups}
 use Rattle.pvs_typing.specs.Growth.{EachName, IsKnown, IsKnownItem, IsKnownContext, AreKnown, all_at, Keeps}
 

@@ -1,5 +1,5 @@
 -- What an answer of the code gives of a definition's.
-use Rattle.std.specs.Prelude.{◌≡◌, ℕ, List, [], ◌∷◌, Option, Some, None, Result, Ok, Err}
+use Rattle.std.specs.Prelude.{◌≡◌, ℕ, Option, Some, None, Result, Err}
 use Rattle.pvs_base.specs.declared.code.Code.{Code}
 use Rattle.pvs_base.specs.declared.code.Code.TheVariants as code
 use Rattle.pvs_terms.specs.Tree.{Tree, Ref, IsWithinLimits}
@@ -7,7 +7,6 @@ use Rattle.pvs_terms.specs.declared.shape.Sort.{Sort}
 use Rattle.pvs_terms.specs.declared.shape.Sort.TheVariants.{OfType}
 use Rattle.pvs_typing.specs.Growth.{IsKnown}
 use Rattle.pvs_terms.specs.Stored.{Stored, tree_at}
-use Rattle.pvs_subst.specs.Contexts.{context_at, IsContext}
 use Rattle.pvs_terms.specs.declared.fault.MakeFault.{MakeFault}
 use Rattle.pvs_terms.specs.declared.fault.MakeFault.TheVariants as made
 use Rattle.pvs_subst.specs.declared.fault.SubstFault.{SubstFault}

@@ -1,6 +1,5 @@
-use Rattle.std.proofs.Common.{◌≡◌, Some, None, Ok, List, subst, sym, ap, ◌∙◌}
+use Rattle.std.proofs.Common.{Ok, subst, ap, ◌∙◌}
 use Rattle.std.proofs.lemmas.Result.{err_from_is_err_and}
-use Rattle.pvs_terms.specs.declared.shape.Sort.TheVariants.{OfType}
 use Rattle.pvs_terms.specs.Stored.{tree_at}
 use Rattle.pvs_types.specs.Forms.{up}
 use Rattle.pvs_typing.specs.Answers.{IsOptionKnown}
