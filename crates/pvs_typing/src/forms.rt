@@ -1,0 +1,126 @@
+//! The forms of types.
+
+ghost use Rattle.std.specs.Prelude.{◌≡◌, ℕ, Ok, IfOk, IfErr};
+ghost use Rattle.pvs_terms.specs.declared.shape.Sort.TheVariants.{OfType};
+ghost use Rattle.pvs_terms.specs.Stored.{IsName, tree_at};
+ghost use Rattle.pvs_sig.specs.Lookups.{IsOrdered};
+ghost use Rattle.pvs_types.specs.Forms.{head, up};
+ghost use Rattle.pvs_typing.specs.Above.{next_above};
+ghost use Rattle.pvs_typing.specs.Growth.{AreKnown, IsKnown, Keeps, all_at};
+ghost use Rattle.pvs_typing.specs.Answers.{IsRefusal, IsOptionKnown, tree_option};
+
+use crate::fault::TypeFault;
+use crate::theories::Theories;
+use pvs_subst::Context;
+use pvs_terms::{Id, Name, Node};
+
+/// The body of a defined name, or the supertype of a predicate subtype.
+fn next_above<T: Theories>(theories: &mut T, theory: Name, ty: Id) -> Result<Option<Id>, TypeFault>
+    requires theory { IsName (T.stored theories.old) theory }
+    requires ty { IsKnown (T.stored theories.old) (T.declares theories.old theory) OfType ty }
+    ensures ok { IfOk result (λ o. next_above (T.lookups theories.old theory) (tree_at (T.stored theories.old) ty) ≡ Ok (tree_option (T.stored theories.new) o)) }
+    ensures known { IfOk result (IsOptionKnown (T.stored theories.new) (T.declares theories.new theory)) }
+    ensures refused { IfErr result (IsRefusal (next_above (T.lookups theories.old theory) (tree_at (T.stored theories.old) ty))) }
+    ensures kept { Keeps (T.stored theories.old) (T.declares theories.old theory) (T.lookups theories.old theory) (T.stored theories.new) (T.declares theories.new theory) (T.lookups theories.new theory) }
+{
+    match theories.store().view(ty) {
+        Node::TSub(a, _) => Ok(Some(a)),
+        Node::TName(r) => {
+            let body = theories.body_of(theory, r)?;
+            Ok(body)
+        }
+        _ => Ok(None),
+    }
+}
+
+/// The head of a type: neither a defined name nor a predicate subtype.
+#[tactic(auto, using(crate::proofs::FormsOver::head_itself, crate::proofs::FormsOver::next_smaller, crate::proofs::GrowthLaws::keeps_none))]
+pub(crate) fn head_of<T: Theories>(theories: &mut T, theory: Name, ty: Id) -> Result<Id, TypeFault>
+    requires theory { IsName (T.stored theories.old) theory }
+    requires ty { IsKnown (T.stored theories.old) (T.declares theories.old theory) OfType ty }
+    requires ordered { IsOrdered (T.lookups theories.old theory) }
+    ensures ok { IfOk result (λ i. head (T.lookups theories.old theory) (tree_at (T.stored theories.old) ty) ≡ Ok (tree_at (T.stored theories.new) i)) }
+    ensures known { IfOk result (IsKnown (T.stored theories.new) (T.declares theories.new theory) OfType) }
+    ensures refused { IfErr result (IsRefusal (head (T.lookups theories.old theory) (tree_at (T.stored theories.old) ty))) }
+    ensures kept { Keeps (T.stored theories.old) (T.declares theories.old theory) (T.lookups theories.old theory) (T.stored theories.new) (T.declares theories.new theory) (T.lookups theories.new theory) }
+{
+    let mut form = ty;
+    loop {
+        match next_above(theories, theory, form)? {
+            None => return Ok(form),
+            Some(above) => form = above,
+        }
+    }
+}
+
+/// The types above a type, itself first: the body of a defined name and the supertype of a predicate
+/// subtype, as often as there is one.
+#[tactic(auto, using(crate::proofs::FormsOver::next_smaller, crate::proofs::FormsOver::up_begins, crate::proofs::GrowthLaws::keeps_none))]
+pub(crate) fn up_of<T: Theories>(
+    theories: &mut T,
+    theory: Name,
+    ty: Id,
+) -> Result<Vec<Id>, TypeFault>
+    requires theory { IsName (T.stored theories.old) theory }
+    requires ty { IsKnown (T.stored theories.old) (T.declares theories.old theory) OfType ty }
+    requires ordered { IsOrdered (T.lookups theories.old theory) }
+    ensures ok { IfOk result (λ v. up (T.lookups theories.old theory) (tree_at (T.stored theories.old) ty) ≡ Ok (all_at (T.stored theories.new) v.items)) }
+    ensures known { IfOk result (λ v. AreKnown (T.stored theories.new) (T.declares theories.new theory) OfType v.items) }
+    ensures refused { IfErr result (IsRefusal (up (T.lookups theories.old theory) (tree_at (T.stored theories.old) ty))) }
+    ensures kept { Keeps (T.stored theories.old) (T.declares theories.old theory) (T.lookups theories.old theory) (T.stored theories.new) (T.declares theories.new theory) (T.lookups theories.new theory) }
+{
+    let alloc = theories.store().allocator();
+    let mut types = Vec::new(alloc);
+    let mut form = ty;
+    loop {
+        types.push(form)?;
+        match next_above(theories, theory, form)? {
+            None => return Ok(types),
+            Some(above) => form = above,
+        }
+    }
+}
+
+/// The head of a type: the body of a defined name and the supertype of a predicate subtype, as often as
+/// there is one. It is neither a defined name nor a predicate subtype (CSL-97-2, subtypes).
+///
+/// Refused with TooLarge exactly where a body on the way, with the actuals in place of the formals,
+/// passes a limit of trees.
+pub fn head<T: Theories>(
+    theories: &mut T,
+    theory: Name,
+    _context: &Context,
+    ty: Id,
+) -> Result<Id, TypeFault>
+    requires theory { IsName (T.stored theories.old) theory }
+    requires ty { IsKnown (T.stored theories.old) (T.declares theories.old theory) OfType ty }
+    requires ordered { IsOrdered (T.lookups theories.old theory) }
+    ensures ok { IfOk result (λ i. head (T.lookups theories.old theory) (tree_at (T.stored theories.old) ty) ≡ Ok (tree_at (T.stored theories.new) i)) }
+    ensures known { IfOk result (IsKnown (T.stored theories.new) (T.declares theories.new theory) OfType) }
+    ensures refused { IfErr result (IsRefusal (head (T.lookups theories.old theory) (tree_at (T.stored theories.old) ty))) }
+    ensures kept { Keeps (T.stored theories.old) (T.declares theories.old theory) (T.lookups theories.old theory) (T.stored theories.new) (T.declares theories.new theory) (T.lookups theories.new theory) }
+{
+    let found = head_of(theories, theory, ty)?;
+    Ok(found)
+}
+
+/// The types above a type, itself first, up to its head.
+///
+/// Refused with TooLarge exactly where a body on the way passes a limit of trees.
+pub fn up<T: Theories>(
+    theories: &mut T,
+    theory: Name,
+    _context: &Context,
+    ty: Id,
+) -> Result<Vec<Id>, TypeFault>
+    requires theory { IsName (T.stored theories.old) theory }
+    requires ty { IsKnown (T.stored theories.old) (T.declares theories.old theory) OfType ty }
+    requires ordered { IsOrdered (T.lookups theories.old theory) }
+    ensures ok { IfOk result (λ v. up (T.lookups theories.old theory) (tree_at (T.stored theories.old) ty) ≡ Ok (all_at (T.stored theories.new) v.items)) }
+    ensures known { IfOk result (λ v. AreKnown (T.stored theories.new) (T.declares theories.new theory) OfType v.items) }
+    ensures refused { IfErr result (IsRefusal (up (T.lookups theories.old theory) (tree_at (T.stored theories.old) ty))) }
+    ensures kept { Keeps (T.stored theories.old) (T.declares theories.old theory) (T.lookups theories.old theory) (T.stored theories.new) (T.declares theories.new theory) (T.lookups theories.new theory) }
+{
+    let found = up_of(theories, theory, ty)?;
+    Ok(found)
+}
