@@ -1,6 +1,5 @@
 pub mod Loops
 pub mod TreeLists
-pub mod LineLaws
 pub mod InputLaws
 pub mod SoundSteps
 pub mod SoundReplay
