@@ -1,6 +1,5 @@
 pub mod Loops
 pub mod TreeLists
-pub mod LineLaws
 pub mod InputLaws
 pub mod SoundSteps
 pub mod SoundReplay
@@ -21,3 +20,4 @@ pub mod SoundOutput
 pub mod SoundOpen
 pub mod OpenExampleReads
 pub mod PlaceBounds
+pub mod StatusLaws

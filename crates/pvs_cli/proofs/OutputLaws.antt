@@ -14,11 +14,11 @@ use Rattle.pvs_cli.specs.declared.input.Input.{Input}
 use Rattle.pvs_cli.specs.declared.input.Input.TheVariants as input
 use Rattle.pvs_cli.specs.declared.status.Status.{Status}
 use Rattle.pvs_cli.specs.declared.status.Status.TheVariants as status
-use Rattle.pvs_cli.specs.Lines.{Line, TotalLine, bytes_of, line_bytes, line_text, totals_of}
+use Rattle.pvs_report.specs.Lines.{Line, TotalLine, bytes_of, line_bytes, line_text, totals_of}
 use Rattle.pvs_cli.specs.Reporting.{IsReport, OneAnswer, answer_lines, of_text, with_total}
 use Rattle.pvs_cli.specs.Input.{ReadsText}
 use Rattle.pvs_cli.specs.Output.{Adds, HasOneOutput, IsCheck, IsOutput, IsReportOf, Writes, WritesFor, WritesOutput, WritesReport, WritesReportOf, exit_status, has_whole_output, is_unfinished, report, text_of, usage, usage_line}
-use Rattle.pvs_cli.proofs.LineLaws.{bytes_push}
+use Rattle.pvs_report.proofs.LineLaws.{bytes_push}
 use Rattle.pvs_cli.proofs.ReportOf.{one_report}
 use Rattle.pvs_script.specs.code.Reading.{script_of}
 use Rattle.pvs_script.proofs.Verdicts.{script_answer}

@@ -9,7 +9,7 @@ use Rattle.pvs_parser.specs.declared.failure.ParseFault.TheVariants as parse_fau
 use Rattle.pvs_parser.specs.Text.{IsAnswer, Answers}
 use Rattle.pvs_script.specs.code.Reading.{script_of}
 use Rattle.pvs_script.proofs.Verdicts.{one_answer, script_answer}
-use Rattle.pvs_cli.specs.Lines.{Line}
+use Rattle.pvs_report.specs.Lines.{Line}
 use Rattle.pvs_cli.specs.Verdicts.{AreScripts, Scripts}
 use Rattle.pvs_cli.specs.Reporting.{IsReport, OneAnswer, answer_lines, unit_lines, with_total, of_text}
 

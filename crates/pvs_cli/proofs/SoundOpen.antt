@@ -18,7 +18,7 @@ use Rattle.pvs_cli.specs.Entries.{Entry, Constant, Formula, core, entries_after,
 use Rattle.pvs_base.specs.Answers.{◌>>=◌}
 use Rattle.pvs_cli.specs.Entries as entries_spec
 use Rattle.pvs_cli.specs.Theories.{Accepted, first_repeated, unless_repeated, theory_entries, theory_part}
-use Rattle.pvs_cli.specs.Lines.{Line, FormulaLine, TotalLine, OpenWord, totals_of}
+use Rattle.pvs_report.specs.Lines.{Line, FormulaLine, TotalLine, OpenWord, totals_of}
 use Rattle.pvs_cli.specs.Reporting.{of_text, outcome_lines, unit_lines, with_total}
 use Rattle.pvs_cli.specs.Verdicts.{Scripts}
 use Rattle.pvs_cli.specs.Outcomes.{outcomes_of}

@@ -11,7 +11,7 @@ use Rattle.pvs_cli.specs.Theories.{Accepted, parts_of}
 use Rattle.pvs_cli.specs.Replaying.{Outcome, Proved, Open, Refused}
 use Rattle.pvs_cli.specs.Verdicts.{Scripts}
 use Rattle.pvs_cli.specs.Outcomes.{PartOutcome, TheoryAccepted, TheoryRefused, ProofOutcome, LemmaStatus, Complete, Unproved, outcomes_of, proves, statuses_of}
-use Rattle.pvs_cli.specs.Lines.{Line, FormulaLine, CompleteWord, TotalLine, totals_of}
+use Rattle.pvs_report.specs.Lines.{Line, FormulaLine, CompleteWord, TotalLine, totals_of}
 use Rattle.pvs_cli.specs.Reporting.{IsReport, OneAnswer, answer_lines, entry_lines, lines_of, of_text, part_lines, proof_line, status_word, unit_lines, with_total}
 use Rattle.pvs_cli.specs.Soundness.{IsSound}
 use Rattle.pvs_cli.proofs.Members.{Has, has_append, has_contained, has_flat_map}

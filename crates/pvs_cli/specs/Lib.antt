@@ -11,8 +11,6 @@ pub mod Replaying
 pub mod Replays
 pub mod Verdicts
 pub mod Outcomes
-pub mod Lines
-pub mod Printed
 pub mod Reporting
 pub mod Input
 pub mod Soundness

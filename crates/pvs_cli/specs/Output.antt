@@ -4,7 +4,7 @@ use Rattle.std.specs.Prelude.{◌≡◌, ◌≤◌, ◌<◌, ◌+◌, ◌^◌, �
 use Rattle.std.specs.List.{list_any}
 use Rattle.pvs_cli.specs.declared.status.Status.{Status}
 use Rattle.pvs_cli.specs.declared.status.Status.TheVariants as status
-use Rattle.pvs_cli.specs.Lines.{Line, bytes_of, is_open, is_refused}
+use Rattle.pvs_report.specs.Lines.{Line, bytes_of, is_open, is_refused}
 use Rattle.pvs_cli.specs.Reporting.{IsReport}
 
 -- a line of an open formula or of a refusal

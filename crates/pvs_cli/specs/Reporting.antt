@@ -11,7 +11,8 @@ use Rattle.pvs_cli.specs.Theories.{parts_of}
 use Rattle.pvs_cli.specs.Replaying.{Outcome, Proved, Open, Refused}
 use Rattle.pvs_cli.specs.Verdicts.{AreScripts, Scripts}
 use Rattle.pvs_cli.specs.Outcomes.{PartOutcome, TheoryAccepted, TheoryRefused, ProofOutcome, LemmaStatus, Unproved, Complete, outcomes_of, statuses_of}
-use Rattle.pvs_cli.specs.Lines.{Line, TheoryLine, RefusedLine, FormulaLine, TotalLine, LineWord, AxiomWord, CompleteWord, OpenWord, UnitOf, TheoryOf, ProofOf, full_name, totals_of}
+use Rattle.pvs_report.specs.declared.line.What.TheVariants as what
+use Rattle.pvs_report.specs.Lines.{Line, TheoryLine, RefusedLine, FormulaLine, TotalLine, LineWord, AxiomWord, CompleteWord, OpenWord, full_name, totals_of}
 
 -- the word for the status of a lemma
 abbrev pub status_word : LemmaStatus → LineWord
@@ -32,12 +33,12 @@ formula_lines status theory es = flat_map (λ e. entry_lines status theory e.nam
 abbrev pub proof_line : FormulaName → Outcome → List Line
 proof_line n Proved = []
 proof_line n (Open s) = []
-proof_line n (Refused f) = RefusedLine ProofOf (full_name n.theory n.formula) f ∷ []
+proof_line n (Refused f) = RefusedLine what.ProofOf (full_name n.theory n.formula) f ∷ []
 
 -- the lines of a part of a unit with its outcome, where lemmas have these statuses
 abbrev pub part_lines : (FormulaName → LemmaStatus) → PartOutcome → List Line
 part_lines status (TheoryAccepted theory es) = TheoryLine theory ∷ formula_lines status theory es
-part_lines status (TheoryRefused theory f) = RefusedLine TheoryOf theory f ∷ []
+part_lines status (TheoryRefused theory f) = RefusedLine what.TheoryOf theory f ∷ []
 part_lines status (ProofOutcome n o) = proof_line n o
 
 -- the lines of the parts of a unit with their outcomes, where lemmas have these statuses
@@ -54,7 +55,7 @@ unit_lines scripts text items = outcome_lines (outcomes_of scripts (parts_of tex
 
 -- the line of a unit that is refused: its name is u
 abbrev pub unit_refusal : Fault → List Line
-unit_refusal f = RefusedLine UnitOf (codes "u") f ∷ []
+unit_refusal f = RefusedLine what.UnitOf (codes "u") f ∷ []
 
 -- the lines of what a text reads as: a unit, or a first fault
 abbrev pub answer_lines : Scripts → List ℕ → Result unit.Unit Fault → List Line

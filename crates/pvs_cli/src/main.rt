@@ -9,7 +9,6 @@ mod fault;
 mod forms;
 mod index;
 mod input;
-mod lines;
 mod names;
 mod outcomes;
 mod output;

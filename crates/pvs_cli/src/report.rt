@@ -9,13 +9,13 @@ ghost use Rattle.pvs_cli.specs.LemmaIndex.{status_in};
 ghost use Rattle.pvs_syntax.specs.Words.{spelling};
 ghost use Rattle.pvs_cli.specs.Shown.{entries_shown, kind_shown};
 ghost use Rattle.pvs_cli.specs.Replays.{outcome_of, part_outcome_shown, part_outcomes_shown};
-ghost use Rattle.pvs_cli.specs.Printed.{line_shown, lines_shown, word_shown};
+ghost use Rattle.pvs_report.specs.Lines.{bytes_of};
+ghost use Rattle.pvs_report.specs.Printed.{line_shown, lines_shown, word_shown};
 ghost use Rattle.pvs_cli.specs.Reporting.{IsReport, entry_lines, formula_lines, outcome_lines, part_lines, proof_line, status_word, unit_lines, unit_refusal, with_total};
-ghost use Rattle.pvs_cli.specs.Output.{IsReportOf, is_unfinished};
+ghost use Rattle.pvs_cli.specs.Output.{IsReportOf, exit_status, is_unfinished};
 
 use crate::entries::{Entry, EntryKind};
 use crate::index::FormulaIndex;
-use crate::lines::{Line, LineWord, bytes, count_lines};
 use crate::names::spelling_of;
 use crate::outcomes::{PartOutcome, outcomes, proved_formulas};
 use crate::replay::Outcome;
@@ -23,17 +23,18 @@ use crate::status::Status;
 use crate::theories::parts;
 use pvs_base::Fault;
 use pvs_parser::{ParseFault, parse_unit};
+use pvs_report::{Line, LineName, LineWord, What, count_lines, put_report};
 use pvs_syntax::{FormulaWord, Item};
 use std::alloc::{AllocError, Global};
 
 /// What the line of a lemma says of it, where these formulas are proved.
-fn lemma_word<'a>(proved: &FormulaIndex<'a, ()>, theory: &'a [u8], name: &'a [u8]) -> LineWord
+fn lemma_word<'a>(proved: &FormulaIndex<'a, ()>, theory: &'a [u8], name: &'a [u8]) -> LineWord<'a>
     ensures { word_shown result ≡ status_word (status_in proved.now (record { theory = theory.now; formula = name.now })) }
 {
     if proved.find(theory, name).is_some() {
-        LineWord::Complete
+        LineWord::CompleteWord
     } else {
-        LineWord::Open
+        LineWord::OpenWord
     }
 }
 
@@ -51,11 +52,17 @@ fn entry_line<'a>(
     match &entry.kind {
         EntryKind::Constant => None,
         EntryKind::Formula(word, _) => match word {
-            FormulaWord::Axiom => Some(Line::Formula(theory, name, LineWord::Axiom)),
+            FormulaWord::Axiom => Some(Line::FormulaLine {
+                theory,
+                formula: name,
+                word: LineWord::AxiomWord,
+            }),
             FormulaWord::Assumption => None,
-            FormulaWord::Lemma => {
-                Some(Line::Formula(theory, name, lemma_word(proved, theory, name)))
-            }
+            FormulaWord::Lemma => Some(Line::FormulaLine {
+                theory,
+                formula: name,
+                word: lemma_word(proved, theory, name),
+            }),
         },
     }
 }
@@ -97,11 +104,16 @@ fn push_part<'a>(
 {
     match outcome {
         PartOutcome::Accepted(theory, entries) => {
-            lines.push(Line::Theory(theory))?;
+            lines.push(Line::TheoryLine(theory))?;
             push_formulas(lines, text, proved, theory, entries)
         }
         PartOutcome::Rejected(theory, fault) => {
-            push_some(lines, Some(Line::TheoryRefused(theory, *fault)))
+            let refusal = Line::RefusedLine {
+                what: What::TheoryOf,
+                name: LineName::Simple(theory),
+                fault: *fault,
+            };
+            push_some(lines, Some(refusal))
         }
         PartOutcome::Proof(theory, formula, outcome) => {
             push_some(lines, proof_line(theory, formula, outcome))
@@ -114,7 +126,11 @@ fn proof_line<'a>(theory: &'a [u8], formula: &'a [u8], outcome: &Outcome<'_>) ->
     ensures { option_to_list (option_map line_shown result) ≡ proof_line (record { theory = theory.now; formula = formula.now }) (outcome_of outcome.now) }
 {
     match outcome {
-        Outcome::Refused(fault) => Some(Line::ProofRefused(theory, formula, *fault)),
+        Outcome::Refused(fault) => Some(Line::RefusedLine {
+            what: What::ProofOf,
+            name: LineName::Qualified(theory, formula),
+            fault: *fault,
+        }),
         Outcome::Proved | Outcome::Open(_) => None,
     }
 }
@@ -155,7 +171,11 @@ fn unit_refusal<'a>(alloc: Global, fault: Fault) -> Result<Vec<Line<'a>>, AllocE
     ensures { IfOk result (λ v. lines_shown v.items ≡ unit_refusal fault) }
 {
     let mut lines = Vec::new(alloc);
-    lines.push(Line::UnitRefused(fault))?;
+    lines.push(Line::RefusedLine {
+        what: What::UnitOf,
+        name: LineName::Simple(b"u"),
+        fault,
+    })?;
     Ok(lines)
 }
 
@@ -189,16 +209,33 @@ fn is_unfinished(lines: &[Line<'_>]) -> bool
     false
 }
 
+/// The bytes of the report whose lines up to the last are these.
+fn report_bytes(alloc: Global, lines: &[Line<'_>]) -> Result<Vec<u8>, AllocError>
+    ensures { IfOk result (λ v. v.items ≡ bytes_of (with_total (lines_shown lines.now))) }
+{
+    let mut bytes = Vec::new(alloc);
+    put_report(alloc, lines, &count_lines(lines), &mut bytes)?;
+    Ok(bytes)
+}
+
+/// How a run ends that wrote a report with these lines before its last one.
+#[tactic(auto, using(crate::proofs::StatusLaws::total_ends_none))]
+fn end_of(lines: &[Line<'_>]) -> Status
+    ensures { result ≡ exit_status (with_total (lines_shown lines.now)) }
+{
+    if is_unfinished(lines) {
+        Status::Unfinished
+    } else {
+        Status::Clean
+    }
+}
+
 /// The report of a text.
 pub fn make_report(alloc: Global, text: &[u8]) -> Result<Report, AllocError>
     ensures { IfOk result (λ r. IsReportOf text.now r.bytes.items r.status) }
 {
     let lines = text_lines(alloc, text)?;
-    let bytes = bytes(alloc, &lines, count_lines(&lines))?;
-    let status = if is_unfinished(&lines) {
-        Status::Unfinished
-    } else {
-        Status::Clean
-    };
+    let bytes = report_bytes(alloc, &lines)?;
+    let status = end_of(&lines);
     Ok(Report { bytes, status })
 }

@@ -1,6 +1,6 @@
 use Rattle.std.proofs.Common.{◌≡◌, drop}
 use Rattle.std.specs.List.{list_any}
-use Rattle.pvs_cli.specs.Printed.{lines_shown}
+use Rattle.pvs_report.specs.Printed.{lines_shown}
 use Rattle.pvs_cli.specs.Output.{is_unfinished}
 use Rattle.pvs_cli.proofs.report.is_unfinished.Given as goal
 

@@ -1,6 +1,6 @@
 use Rattle.std.proofs.Common.{◌≡◌, take}
 use Rattle.pvs_cli.specs.LemmaIndex.{status_in}
-use Rattle.pvs_cli.specs.Printed.{lines_shown}
+use Rattle.pvs_report.specs.Printed.{lines_shown}
 use Rattle.pvs_cli.specs.Replays.{part_outcomes_shown}
 use Rattle.pvs_cli.specs.Reporting.{lines_of}
 use Rattle.pvs_cli.proofs.report.outcome_lines.Given as goal

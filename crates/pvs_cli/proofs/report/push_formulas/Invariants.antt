@@ -1,7 +1,7 @@
 use Rattle.std.proofs.Common.{◌≡◌, ◌++◌, take}
 use Rattle.pvs_cli.specs.LemmaIndex.{status_in}
 use Rattle.pvs_cli.specs.Shown.{entries_shown}
-use Rattle.pvs_cli.specs.Printed.{lines_shown}
+use Rattle.pvs_report.specs.Printed.{lines_shown}
 use Rattle.pvs_cli.specs.Reporting.{formula_lines}
 use Rattle.pvs_cli.proofs.report.push_formulas.Given as goal
 

@@ -1,5 +1,5 @@
 use Rattle.std.proofs.Common.{Err, rules}
-use Rattle.pvs_cli.specs.Printed.{lines_shown}
+use Rattle.pvs_report.specs.Printed.{lines_shown}
 use Rattle.pvs_cli.proofs.ReportOf.{reported, reported_unit, faulty}
 use Rattle.pvs_cli.proofs.report.text_lines.Goals as goal
 

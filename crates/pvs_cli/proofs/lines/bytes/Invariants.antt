@@ -1,8 +1,0 @@
-use Rattle.std.proofs.Common.{◌≡◌, take}
-use Rattle.pvs_cli.specs.Lines.{bytes_of}
-use Rattle.pvs_cli.specs.Printed.{lines_shown}
-use Rattle.pvs_cli.proofs.lines.bytes.Given as goal
-
--- the lines so far were added
-abbrev pub invariant-loop-line : goal.invariant-loop-line
-invariant-loop-line l = l.out.items ≡ bytes_of (lines_shown (take l.line-index l.lines))
