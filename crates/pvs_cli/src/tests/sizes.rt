@@ -1,0 +1,100 @@
+//! Texts as long and as deep as they may be, and past that.
+
+use super::{NOTHING, assert_report, outcome};
+use crate::status::Status;
+use std::alloc::{AllocError, Global};
+use std::str::from_utf8;
+use std::test::Fail;
+
+const PARENTHESES: &str = "unit u refused 1:2 Unexpected\n\
+    total complete 0 incomplete 0 open 0 refused 1\n";
+
+const TOO_NESTED: &str = "unit u refused 1:234 TooNested\n\
+    total complete 0 incomplete 0 open 0 refused 1\n";
+
+const TOO_LONG: &str = "unit u refused 1:1 TextTooLong\n\
+    total complete 0 incomplete 0 open 0 refused 1\n";
+
+#[test]
+fn long_texts(rt: HostRuntime) -> Result<(), Fail> {
+    for (byte, len, report, status) in [
+        (b' ', 1 << 20, NOTHING, Status::Clean),
+        (b' ', (1 << 20) + 1, TOO_LONG, Status::Unfinished),
+        (b' ', (1 << 20) + 4096, TOO_LONG, Status::Unfinished),
+        (b'(', 1 << 20, PARENTHESES, Status::Unfinished),
+    ] {
+        let text = vec![in rt.alloc(); byte; len]?;
+        let went = outcome(rt.alloc(), &["check"], &text, 4096, None, 4096, None)?;
+        let written = from_utf8(&went.written).unwrap_or("no text");
+        assert_eq!(rt; written, report, "of {len} bytes {byte}");
+        assert_eq!(rt; went.status, status, "of {len} bytes {byte}");
+    }
+    Ok(())
+}
+
+/// A theory that nests nearly as deep as a text may, with a list as long as one may be.
+fn deep_and_wide(alloc: Global) -> Result<String, AllocError> {
+    let mut theory = String::from_str(alloc, "t: THEORY BEGIN f: [T")?;
+    for _ in 0..199 {
+        theory.push_str(", T")?;
+    }
+    theory.push_str(" -> bool] l: LEMMA ")?;
+    for _ in 0..199 {
+        theory.push_str("(")?;
+    }
+    theory.push_str("f")?;
+    for _ in 0..199 {
+        theory.push_str(")")?;
+    }
+    theory.push_str("\nEND t\n")?;
+    Ok(theory)
+}
+
+#[test]
+fn large_units(rt: HostRuntime) -> Result<(), Fail> {
+    let theory = deep_and_wide(rt.alloc())?;
+    let mut text = String::new(rt.alloc());
+    for _ in 0..960 {
+        text.push_str(&theory)?;
+    }
+    assert!(rt; text.len() > 1_000_000 && text.len() <= 1 << 20);
+    let room = 1 << 20;
+    let went = outcome(
+        rt.alloc(),
+        &["check"],
+        text.as_bytes(),
+        65_536,
+        None,
+        room,
+        None,
+    )?;
+    let written = from_utf8(&went.written).unwrap_or("no text");
+    let total =
+        "theory t refused 1919:1 OutOfProfile\ntotal complete 0 incomplete 0 open 0 refused 960\n";
+    assert!(rt; written.ends_with(total));
+    assert_eq!(rt; went.status, Status::Unfinished);
+    Ok(())
+}
+
+#[test]
+fn nesting(rt: HostRuntime) -> Result<(), Fail> {
+    for (depth, report) in [
+        (
+            200,
+            "theory t\nt.l open\ntotal complete 0 incomplete 0 open 1 refused 0\n",
+        ),
+        (201, TOO_NESTED),
+    ] {
+        let mut text = String::from_str(rt.alloc(), "t: THEORY BEGIN p: bool l: LEMMA ")?;
+        for _ in 0..depth {
+            text.push_str("(")?;
+        }
+        text.push_str("p")?;
+        for _ in 0..depth {
+            text.push_str(")")?;
+        }
+        text.push_str(" END t")?;
+        assert_report(&rt, rt.alloc(), &text, report, Status::Unfinished)?;
+    }
+    Ok(())
+}
