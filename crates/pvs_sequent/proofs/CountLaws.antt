@@ -1,12 +1,12 @@
 -- Laws of how often numbers stand in lists, and of an index of that.
-use Rattle.std.proofs.Common.{◌≡◌, ◌∙◌, ◌+◌, ◌-◌, ◌<◌, ◌||◌, ◌⊎◌, inl, inr, refl, sym, ap, ap₂, subst, arith, ℕ, zero, suc, Bool, true, false, cond, if◌then◌else◌, eqb, eq-eqb, nat_lt, List, [], ◌∷◌, length, ◌≤◌, remove, slice_get, Option, Some, None}
+use Rattle.std.proofs.Common.{◌≡◌, ◌∙◌, ◌+◌, ◌-◌, ◌<◌, ◌||◌, inl, inr, refl, sym, ap, ap₂, subst, arith, ℕ, zero, suc, Bool, true, false, cond, if◌then◌else◌, eqb, eq-eqb, nat_lt, List, [], ◌∷◌, length, ◌≤◌, remove, slice_get, Option, Some}
 use Rattle.std.specs.List.{count_by, list_any}
 use Rattle.std.specs.Map.{lookup}
 use Rattle.std.specs.Option.{unwrap_or}
 use Rattle.std.proofs.lemmas.Bool.{eqb-true, cases_eq, cases_lt, lt-ltb, le-ltb}
 use Rattle.std.proofs.lemmas.List.Sums.{sum_by-cons, count_by-le-length}
 use Rattle.pvs_sem.proofs.TruthLaws.{list_any_at}
-use Rattle.pvs_sequent.specs.Counts.{times, counted, IsCountOf, count_among, share_number}
+use Rattle.pvs_sequent.specs.Counts.{times, counted, IsCountOf, count_among}
 
 -- different numbers, by the test
 apart : (a b : ℕ) → (a ≡ b → ⊥) → eqb a b ≡ false

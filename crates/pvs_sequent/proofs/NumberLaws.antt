@@ -1,5 +1,5 @@
 -- Laws of sequents of numbers and what they stand for.
-use Rattle.std.proofs.Common.{◌≡◌, ◌∙◌, ◌<◌, ◌||◌, refl, sym, ap, ap₂, subst, arith, ℕ, zero, suc, Bool, true, false, eqb, eq-eqb, List, [], ◌∷◌, length, get_or, remove, slice_get, Option}
+use Rattle.std.proofs.Common.{◌≡◌, ◌∙◌, ◌<◌, ◌||◌, refl, sym, ap, ap₂, subst, arith, ℕ, zero, suc, Bool, false, eqb, eq-eqb, List, [], ◌∷◌, length, get_or, remove, slice_get, Option}
 use Rattle.std.specs.List.{list_any}
 use Rattle.std.proofs.lemmas.Bool.{eqb-true, true≢false}
 use Rattle.pvs_terms.specs.Tree.{Tree, tree_eq}

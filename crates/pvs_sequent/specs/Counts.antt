@@ -1,5 +1,5 @@
 -- How often numbers stand in lists, and an index of that. Only the implementation of sequents speaks of it.
-use Rattle.std.specs.Prelude.{◌≡◌, ℕ, Bool, List, eqb, Option}
+use Rattle.std.specs.Prelude.{◌≡◌, ℕ, Bool, List, eqb}
 use Rattle.std.specs.List.{count_by, list_any}
 use Rattle.std.specs.Map.{lookup}
 use Rattle.std.specs.Option.{unwrap_or}

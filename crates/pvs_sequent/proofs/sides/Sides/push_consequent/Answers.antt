@@ -1,4 +1,4 @@
-use Rattle.std.proofs.Common.{◌≡◌, ◌+◌, arith, rules, false, eqb, refl, length, ◌∷◌}
+use Rattle.std.proofs.Common.{◌≡◌, ◌+◌, arith, rules, false, eqb, refl, ◌∷◌}
 use Rattle.std.specs.List.{list_any}
 use Rattle.pvs_sequent.specs.Counts.{count_among}
 use Rattle.pvs_sequent.proofs.CountLaws.{new_shared, shared_fit}
