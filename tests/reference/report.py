@@ -1,6 +1,6 @@
 """The report of a unit, at a stage of the language.
 
-The stages are those of docs/LANGUAGE.md: by 2 theories of boolean constants are checked, by 3
+A stage says what is built: by 2 theories of boolean constants are checked, by 3
 simple types, by 4 predicate subtypes with their conditions, by 5 tuples and dependent types, by 6
 the rules of logic, by 7 those of equality, and by 8 theories with parameters and importings.
 """
