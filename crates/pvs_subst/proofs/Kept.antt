@@ -3,7 +3,7 @@ use Rattle.std.proofs.Common.{◌≡◌, ℕ, refl, sym, ◌∙◌, ap, subst}
 use Rattle.pvs_terms.specs.Tree.{Tree, If, IsWithinLimits}
 use Rattle.pvs_terms.specs.Stored.{Stored, tree_at, shape_tree, node_tree, IsNode, ShapeIn, PartsIn, Extends, Stands, StandsAs}
 use Rattle.pvs_terms.specs.Sorts.{HasSorts}
-use Rattle.pvs_terms.specs.Shapes.{shape_of}
+use Rattle.pvs_terms.specs.code.Shapes.{shape_of}
 use Rattle.pvs_terms.specs.declared.node.Node.{Node}
 use Rattle.pvs_terms.specs.declared.shape.Shape.{Shape}
 use Rattle.pvs_terms.specs.declared.shape.Shape.TheVariants.{Choose}

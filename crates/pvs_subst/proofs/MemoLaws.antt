@@ -8,7 +8,7 @@ use Rattle.pvs_terms.proofs.StoredLaws.{stands_extends, trees_at-extends}
 use Rattle.pvs_terms.proofs.TreeLaws.{both}
 use Rattle.pvs_subst.specs.declared.memo.Part.{Part}
 use Rattle.pvs_subst.specs.Instances.{IsInstance}
-use Rattle.pvs_subst.specs.Memo.{part_eq, made_of, IsMade, Remembers, puts, instances}
+use Rattle.pvs_subst.specs.code.Memo.{part_eq, made_of, IsMade, Remembers, puts, instances}
 
 part_eq-true : (p q : Part) → part_eq p q ≡ true → p ≡ q
 part_eq-true p q h =

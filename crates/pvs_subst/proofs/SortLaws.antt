@@ -7,7 +7,7 @@ use Rattle.pvs_terms.specs.declared.shape.Sort.{Sort}
 use Rattle.pvs_terms.specs.declared.shape.Shape.{Shape}
 use Rattle.pvs_terms.specs.declared.shape.Shape.TheVariants as shape
 use Rattle.pvs_terms.proofs.SortLaws.{has_sorts}
-use Rattle.pvs_subst.specs.Compound.{IsCompound, IsNoName}
+use Rattle.pvs_subst.specs.code.Compound.{IsCompound, IsNoName}
 use Rattle.pvs_subst.specs.Replace.{lift, put_var, put_at, put_in}
 use Rattle.pvs_subst.specs.Instance.{actual, instantiate, instantiate_all, HasActual, HasActuals, AllHaveActuals}
 

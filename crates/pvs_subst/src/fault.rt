@@ -14,7 +14,7 @@ pub enum SubstFault {
 
 impl From<MakeFault> for SubstFault {
     ghost use Rattle.std.specs.Prelude.{◌≡◌};
-    ghost use Rattle.pvs_subst.specs.Faults.{fault_of};
+    ghost use Rattle.pvs_subst.specs.code.Faults.{fault_of};
 
     ghost from_gives = { λ f e. e ≡ fault_of f };
 

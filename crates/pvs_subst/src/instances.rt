@@ -6,9 +6,9 @@ ghost use Rattle.pvs_terms.specs.Tree as tree;
 ghost use Rattle.pvs_terms.specs.Stored.{IsNode, IsRef, IsName, AreNodes, ShapeIn, tree_at, ref_at, trees_at, text_at, shape_tree, Stands, StandsAs, Extends};
 ghost use Rattle.pvs_subst.specs.Instance.{instantiate, instantiate_all, HasActuals, AllHaveActuals, AreWithinLimits};
 ghost use Rattle.pvs_terms.specs.Sorts.{HasSorts};
-ghost use Rattle.pvs_subst.specs.Compound.{IsNoName};
+ghost use Rattle.pvs_subst.specs.code.Compound.{IsNoName};
 ghost use Rattle.pvs_subst.specs.Instances.{IsInstance};
-ghost use Rattle.pvs_subst.specs.Memo.{instances, Remembers};
+ghost use Rattle.pvs_subst.specs.code.Memo.{instances, Remembers};
 
 use crate::fault::SubstFault;
 use crate::memo::Memo;

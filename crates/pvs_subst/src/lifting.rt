@@ -4,7 +4,7 @@ ghost use Rattle.std.specs.Prelude.{◌≡◌, ℕ, ◌+◌, ◌<◌, ◌^◌, �
 ghost use Rattle.pvs_terms.specs.Tree.{depth, IsWithinLimits};
 ghost use Rattle.pvs_terms.specs.Stored.{IsNode, tree_at, shape_tree, ShapeIn, Stands, StandsAs, Extends};
 ghost use Rattle.pvs_subst.specs.Replace.{lift, raised_index};
-ghost use Rattle.pvs_subst.specs.Memo.{lifts, Remembers};
+ghost use Rattle.pvs_subst.specs.code.Memo.{lifts, Remembers};
 
 use crate::fault::SubstFault;
 use crate::memo::Memo;

@@ -31,7 +31,7 @@ impl Model for Memo {
 
 impl Memo {
     ghost use Rattle.pvs_subst.specs.declared.memo.Part.{Part};
-    ghost use Rattle.pvs_subst.specs.Memo.{part_eq, made_of};
+    ghost use Rattle.pvs_subst.specs.code.Memo.{part_eq, made_of};
 
     pub(crate) fn new(alloc: Global) -> Memo
         ensures { result ≡ [] }

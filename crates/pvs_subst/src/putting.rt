@@ -5,8 +5,8 @@ ghost use Rattle.pvs_terms.specs.Tree.{depth, IsWithinLimits};
 ghost use Rattle.pvs_terms.specs.Stored.{IsNode, tree_at, shape_tree, ShapeIn, Stands, StandsAs, Extends};
 ghost use Rattle.pvs_terms.specs.Sorts.{HasSorts, IsTerm};
 ghost use Rattle.pvs_subst.specs.Replace.{lift, put_var, put_at, put_in};
-ghost use Rattle.pvs_subst.specs.Compound.{IsCompound};
-ghost use Rattle.pvs_subst.specs.Memo.{puts, Remembers};
+ghost use Rattle.pvs_subst.specs.code.Compound.{IsCompound};
+ghost use Rattle.pvs_subst.specs.code.Memo.{puts, Remembers};
 
 use crate::fault::SubstFault;
 use crate::lifting::lift;

@@ -11,10 +11,10 @@ use Rattle.pvs_terms.specs.declared.shape.Shape.{Shape}
 use Rattle.pvs_terms.specs.declared.shape.Shape.TheVariants.{Leaf, Index, Name, Bind, Join, Project, Choose}
 use Rattle.pvs_terms.specs.declared.node.Node.{Node}
 use Rattle.pvs_terms.specs.declared.node.Node.TheVariants as node
-use Rattle.pvs_terms.specs.Shapes.{shape_of}
+use Rattle.pvs_terms.specs.code.Shapes.{shape_of}
 use Rattle.pvs_terms.specs.declared.node.RefKind.{RefKind}
 use Rattle.pvs_terms.specs.declared.node.RefKind.TheVariants as kind
-use Rattle.pvs_terms.specs.Texts.{AreDistinct}
+use Rattle.pvs_terms.specs.code.Texts.{AreDistinct}
 use Rattle.pvs_terms.specs.Stored.{Stored, tree_at, ref_at, text_at, trees_at, given_ref, shape_tree, IsNode, IsRef, ShapeIn, KindIn, MayHave, AllBelow}
 
 -- the node of a shape

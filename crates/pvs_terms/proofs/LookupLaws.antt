@@ -5,12 +5,12 @@ use Rattle.std.specs.Map.{keys_of}
 use Rattle.std.proofs.lemmas.List.{length-map}
 use Rattle.pvs_terms.specs.Tree.{Text}
 use Rattle.pvs_terms.specs.declared.node.Node.{Node}
-use Rattle.pvs_terms.specs.Refs.{RefEntry}
+use Rattle.pvs_terms.specs.code.Refs.{RefEntry}
 use Rattle.pvs_terms.specs.declared.measure.Measure.{Measure}
-use Rattle.pvs_terms.specs.Shapes.{shape_of}
-use Rattle.pvs_terms.specs.Measures.{no_trees}
+use Rattle.pvs_terms.specs.code.Shapes.{shape_of}
+use Rattle.pvs_terms.specs.code.Measures.{no_trees}
 use Rattle.pvs_terms.specs.Stored.{Stored, tree_at, node_tree, IsNode, PartsIn}
-use Rattle.pvs_terms.specs.StoreView.{stored, IsSound}
+use Rattle.pvs_terms.specs.code.StoreView.{stored, IsSound}
 use Rattle.pvs_terms.proofs.StoredLaws.{HasParts-mono}
 use Rattle.pvs_terms.proofs.DistinctLaws.{shape_of-injective, shape_tree-injective, key_at, same_default}
 use Rattle.pvs_terms.proofs.StoreLaws.{nodes_differ, refs_differ}

@@ -11,7 +11,7 @@ use Rattle.pvs_terms.specs.declared.node.RefKind.TheVariants.{Own, Formal, Inst}
 use Rattle.pvs_terms.specs.declared.refs.RefKey.{RefKey}
 use Rattle.pvs_terms.specs.contracts.node.RefKindPartialEq.TheImpl as kinds
 use Rattle.pvs_terms.specs.contracts.refs.RefKeyPartialEq.TheImpl as keys
-use Rattle.pvs_terms.specs.Refs.{Given, given_of, entry_of}
+use Rattle.pvs_terms.specs.code.Refs.{Given, given_of, entry_of}
 
 abbrev pub kind_eq : RefKind → RefKind → Bool
 kind_eq = kinds.ghosts.eq

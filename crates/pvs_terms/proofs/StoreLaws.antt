@@ -6,22 +6,22 @@ use Rattle.pvs_terms.specs.Tree.{Text, Ref, IsWithinLimits, Const, AreClosed, re
 use Rattle.pvs_terms.specs.declared.node.Node.{Node}
 use Rattle.pvs_terms.specs.declared.node.RefKind.{RefKind}
 use Rattle.pvs_terms.specs.declared.node.RefKind.TheVariants as kind
-use Rattle.pvs_terms.specs.Refs.{Given, RefEntry}
+use Rattle.pvs_terms.specs.code.Refs.{Given, RefEntry}
 use Rattle.pvs_terms.specs.declared.measure.Measure.{Measure}
 use Rattle.pvs_terms.specs.Stored.{Stored, Reference, no_reference, tree_at, ref_at, IsNode, IsRef, HasParts, PartsIn, node_tree, AllBelow, trees_at, theory_in, KindIn, MayHave, given_ref, Extends, Stands, StandsRef}
-use Rattle.pvs_terms.specs.StoreView.{stored, reference_of, IsRight, IsRightRef, IsSound, IsNew, NamesBelow, ActualsBelow}
-use Rattle.pvs_terms.specs.Texts.{AreDistinct, KeepsTexts}
+use Rattle.pvs_terms.specs.code.StoreView.{stored, reference_of, IsRight, IsRightRef, IsSound, IsNew, NamesBelow, ActualsBelow}
+use Rattle.pvs_terms.specs.code.Texts.{AreDistinct, KeepsTexts}
 use Rattle.pvs_terms.proofs.StoredLaws.{pushed, pushed_ref, actuals_at, ref_at-given, ref_from-given, extends-names, extends-push, extends-push_ref, ref_at-push_new, NamesBelow-mono, NameBelow-of, NamesBelow-push, tree_at-push_new, node_tree-extends, HasParts-mono, ActualsBelow-mono}
 use Rattle.std.proofs.lemmas.List.{map-append, get_or_append_left, get_or_push}
 use Rattle.std.proofs.lemmas.Bool.{cases_lt}
 use Rattle.std.proofs.Common.{length-append, inl, inr, ◌⊎◌}
-use Rattle.pvs_terms.specs.Shapes.{shape_of}
-use Rattle.pvs_terms.specs.Measures.{measure_of, ref_measure, IsSmall}
+use Rattle.pvs_terms.specs.code.Shapes.{shape_of}
+use Rattle.pvs_terms.specs.code.Measures.{measure_of, ref_measure, IsSmall}
 use Rattle.pvs_terms.specs.Sorts.{HasSorts, IsSorted, IsSortedRef}
 use Rattle.std.specs.Map.{keys_of}
 use Rattle.std.proofs.Common.{Some, slice_get}
 use Rattle.std.proofs.lemmas.Option.{same_Some}
-use Rattle.pvs_terms.specs.Measures.{no_trees}
+use Rattle.pvs_terms.specs.code.Measures.{no_trees}
 use Rattle.pvs_terms.proofs.DistinctLaws.{NodesDistinct, RefsDistinct, IsGiven, given_ref-injective, shape_of-injective, shape_tree-injective, key_at, key_within, same_default}
 use Rattle.pvs_terms.proofs.SortLaws.{shape_sorted, given_sorted}
 

@@ -10,14 +10,14 @@ use Rattle.pvs_terms.specs.Tree.{Tree, Ref}
 use Rattle.pvs_terms.specs.declared.node.Node.{Node}
 use Rattle.pvs_terms.specs.declared.shape.Shape.{Shape}
 use Rattle.pvs_terms.specs.declared.shape.Shape.TheVariants as shape
-use Rattle.pvs_terms.specs.Shapes.{shape_of}
+use Rattle.pvs_terms.specs.code.Shapes.{shape_of}
 use Rattle.pvs_terms.specs.declared.node.RefKind.{RefKind}
 use Rattle.pvs_terms.specs.declared.node.RefKind.TheVariants as kind
 use Rattle.std.specs.Prelude.{slice_index_or}
 use Rattle.pvs_terms.specs.Stored.{Stored, Reference, no_reference, tree_among, trees_among, ref_from, theory_in, ref_among, text_at, shape_among, shape_tree, trees_after, trees, tree_at, ref_at, IsNode, HasParts, PartsIn, node_tree, AllBelow, trees_at, given_ref, Extends, Stands}
 use Rattle.pvs_terms.specs.Tree.{Text}
-use Rattle.pvs_terms.specs.Texts.{KeepsTexts}
-use Rattle.pvs_terms.specs.StoreView.{ActualsBelow, NameBelow, NamesBelow}
+use Rattle.pvs_terms.specs.code.Texts.{KeepsTexts}
+use Rattle.pvs_terms.specs.code.StoreView.{ActualsBelow, NameBelow, NamesBelow}
 
 trees_after-push : (rs : List Reference) (ts : List Tree) (ns : List Node) (n : Node) → trees_after rs ts (ns ++ n ∷ []) ≡ trees_after rs ts ns ++ shape_among rs (trees_after rs ts ns) (shape_of n) ∷ []
 trees_after-push rs ts [] n = refl

@@ -9,7 +9,7 @@ use Rattle.std.proofs.lemmas.List.Quantifiers.{position-Some}
 use Rattle.std.proofs.lemmas.Option.{get_or_from_slice_get}
 use Rattle.std.proofs.lemmas.Slice.Eq.{bytes_eq-Decides}
 use Rattle.pvs_terms.specs.Tree.{Text}
-use Rattle.pvs_terms.specs.Texts.{AreDistinct, IsOnly, KeepsTexts}
+use Rattle.pvs_terms.specs.code.Texts.{AreDistinct, IsOnly, KeepsTexts}
 
 -- a text that no number stands for
 abbrev pub IsFresh : List Text → Text → Type 0

@@ -6,7 +6,7 @@ use Rattle.pvs_terms.specs.Tree.{Text, Tree, Ref, Trees, IsWithinLimits, AreClos
 use Rattle.pvs_terms.specs.declared.node.Node.{Node}
 use Rattle.pvs_terms.specs.declared.shape.Shape.{Shape}
 use Rattle.pvs_terms.specs.declared.shape.Shape.TheVariants as shape
-use Rattle.pvs_terms.specs.Shapes.{shape_of}
+use Rattle.pvs_terms.specs.code.Shapes.{shape_of}
 use Rattle.pvs_terms.specs.declared.node.RefKind.{RefKind}
 use Rattle.pvs_terms.specs.declared.node.RefKind.TheVariants as kind
 

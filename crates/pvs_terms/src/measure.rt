@@ -20,7 +20,7 @@ pub(crate) struct Measure {
 }
 
 impl Measure {
-    ghost use Rattle.pvs_terms.specs.Measures.{no_trees, leaf, variable, above, beside, under, of_ref, IsSmall, IsRoomy};
+    ghost use Rattle.pvs_terms.specs.code.Measures.{no_trees, leaf, variable, above, beside, under, of_ref, IsSmall, IsRoomy};
 
     /// The measure of no trees at all.
     pub(crate) fn none() -> Measure

@@ -14,7 +14,7 @@ pub(crate) struct Names {
 
 impl Model for Names {
     ghost use Rattle.std.specs.Prelude.{List, ℕ, map, string_bytes};
-    ghost use Rattle.pvs_terms.specs.Texts.{AreDistinct};
+    ghost use Rattle.pvs_terms.specs.code.Texts.{AreDistinct};
 
     ghost Value = { List (List ℕ) };
 
@@ -24,7 +24,7 @@ impl Model for Names {
 }
 
 impl Names {
-    ghost use Rattle.pvs_terms.specs.Texts.{AreDistinct, KeepsTexts, IsOnly};
+    ghost use Rattle.pvs_terms.specs.code.Texts.{AreDistinct, KeepsTexts, IsOnly};
 
     pub(crate) fn new(alloc: Global) -> Names
         ensures { result ≡ [] }

@@ -14,9 +14,9 @@ impl Store {
     ghost use Rattle.pvs_terms.specs.Tree.{ref_actuals, AreClosed, IsWithinLimits, Const};
     ghost use Rattle.pvs_terms.specs.Stored.{tree_at, ref_at, trees_at, IsNode, IsRef, AreNodes, AllBelow, KindIn, MayHave};
     ghost use Rattle.pvs_terms.specs.Stored.{ref_of, given_ref, StandsRef, Extends};
-    ghost use Rattle.pvs_terms.specs.Measures.{ref_measure, trees_measure, IsRoomy};
+    ghost use Rattle.pvs_terms.specs.code.Measures.{ref_measure, trees_measure, IsRoomy};
     ghost use Rattle.pvs_terms.specs.Sorts.{AreSorted};
-    ghost use Rattle.pvs_terms.specs.StoreView.{IsNew};
+    ghost use Rattle.pvs_terms.specs.code.StoreView.{IsNew};
 
     /// What the reference is, but for its actuals.
     pub fn kind(&self, r: RefId) -> RefKind

@@ -26,7 +26,7 @@ pub(crate) struct Refs {
 
 impl Model for Refs {
     ghost use Rattle.std.specs.Prelude.{List, map};
-    ghost use Rattle.pvs_terms.specs.Refs.{RefEntry, entry_of};
+    ghost use Rattle.pvs_terms.specs.code.Refs.{RefEntry, entry_of};
 
     ghost Value = { List RefEntry };
 
@@ -34,7 +34,7 @@ impl Model for Refs {
 }
 
 impl Refs {
-    ghost use Rattle.pvs_terms.specs.Refs.{given_of};
+    ghost use Rattle.pvs_terms.specs.code.Refs.{given_of};
 
     pub(crate) fn new(alloc: Global) -> Refs
         ensures { result ≡ [] }

@@ -60,7 +60,7 @@ pub enum Shape {
 }
 
 impl Node {
-    ghost use Rattle.pvs_terms.specs.Shapes.{shape_of};
+    ghost use Rattle.pvs_terms.specs.code.Shapes.{shape_of};
 
     /// The node by its shape.
     pub fn shape(self) -> Shape
@@ -88,7 +88,7 @@ impl Node {
 }
 
 impl Shape {
-    ghost use Rattle.pvs_terms.specs.Shapes.{shape_of};
+    ghost use Rattle.pvs_terms.specs.code.Shapes.{shape_of};
 
     /// The node that has this shape.
     pub fn node(self) -> Node

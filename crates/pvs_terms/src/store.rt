@@ -27,7 +27,7 @@ impl Model for Store {
 
     ghost Value = { Stored };
 
-    ghost use Rattle.pvs_terms.specs.StoreView.{stored, IsSound};
+    ghost use Rattle.pvs_terms.specs.code.StoreView.{stored, IsSound};
 
     ghost view = { λ s. stored s.names s.nodes s.refs };
 
@@ -39,8 +39,8 @@ impl Store {
     ghost use Rattle.pvs_terms.specs.Tree.{depth, size, free_below, is_local, tree_eq, ref_eq, trees_eq, ref_actuals, AreClosed, IsWithinLimits, Const, Text};
     ghost use Rattle.pvs_terms.specs.Stored.{tree_at, ref_at, text_at, trees_at, IsNode, IsRef, IsName, AreNodes, AllBelow, KindIn, MayHave, HasParts, PartsIn};
     ghost use Rattle.pvs_terms.specs.Stored.{node_tree, ref_of, given_ref, Stands, StandsRef, StandsName, Extends};
-    ghost use Rattle.pvs_terms.specs.Measures.{measure_of, ref_measure, trees_measure, above, beside, under, IsSmall};
-    ghost use Rattle.pvs_terms.specs.Shapes.{shape_of};
+    ghost use Rattle.pvs_terms.specs.code.Measures.{measure_of, ref_measure, trees_measure, above, beside, under, IsSmall};
+    ghost use Rattle.pvs_terms.specs.code.Shapes.{shape_of};
     ghost use Rattle.pvs_terms.specs.Sorts.{HasSorts, IsSorted};
 
     /// A store without nodes, names and references.

@@ -11,7 +11,7 @@ use Rattle.pvs_subst.proofs.SortLaws.{HasSorts-instantiate_shape}
 use Rattle.pvs_subst.proofs.Kept.{stands_unchanged, makeable}
 use Rattle.pvs_terms.specs.Sorts.{HasSorts}
 use Rattle.pvs_subst.proofs.MemoLaws.{remembers_made, instances_remembered}
-use Rattle.pvs_subst.specs.Compound.{IsNoName}
+use Rattle.pvs_subst.specs.code.Compound.{IsNoName}
 use Rattle.pvs_subst.proofs.instances.+instantiate.Goals as goal
 
 pub instantiate_tree-returns-then-not-is_local-clause-ok : goal.instantiate_tree-returns-then-not-is_local-clause-ok

@@ -10,7 +10,7 @@ use Rattle.pvs_subst.proofs.Kept.{stands_unchanged, choose_stands, stays, makeab
 use Rattle.std.proofs.Common.{◌∙◌, sym, subst, ap}
 use Rattle.pvs_terms.specs.Sorts.{HasSorts}
 use Rattle.pvs_terms.specs.Stored.{shape_tree}
-use Rattle.pvs_subst.specs.Compound.{IsCompound}
+use Rattle.pvs_subst.specs.code.Compound.{IsCompound}
 use Rattle.pvs_subst.proofs.putting.+put.Goals as goal
 
 pub put_below-returns-then-free_below-depth-clause-ok : goal.put_below-returns-then-free_below-depth-clause-ok

@@ -1,5 +1,5 @@
 use Rattle.std.proofs.Common.{◌≡◌, Some, cond, subst}
-use Rattle.pvs_subst.specs.Memo.{part_eq, made_of}
+use Rattle.pvs_subst.specs.code.Memo.{part_eq, made_of}
 use Rattle.pvs_subst.proofs.memo.Memo.put.Goals as goal
 
 pub returns : goal.returns

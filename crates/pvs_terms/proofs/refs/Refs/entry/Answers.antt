@@ -1,8 +1,8 @@
 use Rattle.std.proofs.Common.{◌≡◌, ◌<◌, ◌∙◌, List, length, map, sym, subst}
 use Rattle.std.specs.Prelude.{slice_index_or}
 use Rattle.std.specs.Map.{keys_of, values_of}
-use Rattle.pvs_terms.specs.Measures.{no_trees}
-use Rattle.pvs_terms.specs.Refs.{RefEntry, entry_of}
+use Rattle.pvs_terms.specs.code.Measures.{no_trees}
+use Rattle.pvs_terms.specs.code.Refs.{RefEntry, entry_of}
 use Rattle.pvs_terms.specs.declared.refs.RefKey.{RefKey}
 use Rattle.pvs_terms.proofs.RefKeyLaws.{seen_entry}
 use Rattle.pvs_terms.proofs.refs.Refs.entry.Goals as goal

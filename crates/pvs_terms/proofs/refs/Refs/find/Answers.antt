@@ -1,7 +1,7 @@
 use Rattle.std.proofs.Common.{◌≡◌, ℕ, List, Some, slice_get, sym, subst, ◌∙◌, ap, is_some}
 use Rattle.std.proofs.lemmas.Map.Made.{is_some-lookup}
 use Rattle.std.specs.Map.{keys_of}
-use Rattle.pvs_terms.specs.Refs.{Given, given_of}
+use Rattle.pvs_terms.specs.code.Refs.{Given, given_of}
 use Rattle.pvs_terms.proofs.Keyed.{found_by, not_found_by}
 use Rattle.pvs_terms.proofs.RefKeyLaws.{key_eq, key_eq-true, key_eq-same, seen_keys}
 use Rattle.pvs_terms.proofs.refs.Refs.find.Goals as goal

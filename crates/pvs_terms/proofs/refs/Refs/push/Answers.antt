@@ -1,7 +1,7 @@
 use Rattle.std.proofs.Common.{◌≡◌, ℕ, List, [], ◌∷◌, Some, slice_get, map, sym, subst, ◌∙◌, ap}
 use Rattle.std.specs.Map.{keys_of}
 use Rattle.std.proofs.lemmas.List.{map-append}
-use Rattle.pvs_terms.specs.Refs.{Given, RefEntry, given_of, entry_of}
+use Rattle.pvs_terms.specs.code.Refs.{Given, RefEntry, given_of, entry_of}
 use Rattle.pvs_terms.proofs.Keyed.{entered_by}
 use Rattle.pvs_terms.proofs.RefKeyLaws.{key_eq, key_eq-true, seen_keys}
 use Rattle.pvs_terms.proofs.refs.Refs.push.Goals as goal

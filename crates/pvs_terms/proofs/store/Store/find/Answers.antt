@@ -1,5 +1,5 @@
 use Rattle.std.proofs.Common.{◌∙◌, sym, subst}
-use Rattle.pvs_terms.specs.Refs.{given_of}
+use Rattle.pvs_terms.specs.code.Refs.{given_of}
 use Rattle.pvs_terms.specs.Stored.{StandsRef, given_ref}
 use Rattle.pvs_terms.proofs.StoreLaws.{refs_differ, found_ref_stands, absent_ref_stands}
 use Rattle.pvs_terms.proofs.store.Store.find.Goals as goal

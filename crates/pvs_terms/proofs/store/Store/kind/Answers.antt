@@ -1,4 +1,4 @@
-use Rattle.pvs_terms.specs.Refs.{given_of}
+use Rattle.pvs_terms.specs.code.Refs.{given_of}
 use Rattle.std.proofs.Common.{◌∙◌, ap}
 use Rattle.pvs_terms.specs.Stored.{ref_of}
 use Rattle.pvs_terms.proofs.StoreLaws.{ref_seen}

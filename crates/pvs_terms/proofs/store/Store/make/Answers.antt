@@ -1,7 +1,7 @@
 use Rattle.std.proofs.Common.{rules, ◌∙◌, sym, subst, refl}
 use Rattle.pvs_terms.specs.Stored.{Stands, node_tree}
-use Rattle.pvs_terms.specs.StoreView.{stored}
-use Rattle.pvs_terms.specs.Measures.{IsSmall}
+use Rattle.pvs_terms.specs.code.StoreView.{stored}
+use Rattle.pvs_terms.specs.code.Measures.{IsSmall}
 use Rattle.pvs_terms.proofs.StoreLaws.{pushed_is, IsPushed, found_stands, nodes_differ}
 use Rattle.pvs_terms.proofs.store.Store.make.Goals as goal
 use Rattle.pvs_terms.proofs.store.Store.make.Goals.{After-new, After-new-2}

@@ -1,4 +1,4 @@
-use Rattle.pvs_terms.specs.StoreView.{stored}
+use Rattle.pvs_terms.specs.code.StoreView.{stored}
 use Rattle.pvs_terms.proofs.StoreLaws.{named_is, IsNamed}
 use Rattle.pvs_terms.proofs.store.Store.name.Goals as goal
 use Rattle.pvs_terms.proofs.store.Store.name.Goals.{After-new}

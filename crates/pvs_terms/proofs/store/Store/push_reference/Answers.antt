@@ -1,6 +1,6 @@
 use Rattle.std.proofs.Common.{refl, sym, ◌∙◌}
-use Rattle.pvs_terms.specs.Refs.{given_of}
-use Rattle.pvs_terms.specs.StoreView.{stored}
+use Rattle.pvs_terms.specs.code.Refs.{given_of}
+use Rattle.pvs_terms.specs.code.StoreView.{stored}
 use Rattle.pvs_terms.proofs.StoreLaws.{pushed_ref_is, IsPushedRef, refs_differ, new_ref}
 use Rattle.pvs_terms.proofs.store.Store.push_reference.Goals as goal
 

@@ -1,4 +1,4 @@
-use Rattle.pvs_terms.specs.Refs.{given_of}
+use Rattle.pvs_terms.specs.code.Refs.{given_of}
 use Rattle.pvs_terms.specs.Stored.{ref_at}
 use Rattle.pvs_terms.proofs.StoreLaws.{ref_seen, small_ref}
 use Rattle.pvs_terms.proofs.store.Store.ref_measure_at.Goals as goal

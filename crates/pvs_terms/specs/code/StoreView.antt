@@ -2,15 +2,15 @@
 use Rattle.std.specs.Prelude.{◌≡◌, ℕ, ◌<◌, List, [], ◌∷◌, map, length, slice_index_or}
 use Rattle.pvs_terms.specs.Tree.{Text, IsWithinLimits, Const, AreClosed, ref_actuals}
 use Rattle.std.specs.Map.{keys_of}
-use Rattle.pvs_terms.specs.Refs.{RefEntry}
+use Rattle.pvs_terms.specs.code.Refs.{RefEntry}
 use Rattle.pvs_terms.specs.Stored.{Stored, Reference, theory_in, tree_at, ref_at, HasParts, KindIn, MayHave, IsNode, IsRef, node_tree, given_ref, AllBelow}
 use Rattle.pvs_terms.specs.declared.measure.Measure.{Measure}
 use Rattle.pvs_terms.specs.declared.node.RefKind.{RefKind}
 use Rattle.pvs_terms.specs.declared.node.Node.{Node}
 use Rattle.pvs_terms.specs.declared.shape.Shape.{Shape}
 use Rattle.pvs_terms.specs.declared.shape.Shape.TheVariants as shape
-use Rattle.pvs_terms.specs.Shapes.{shape_of}
-use Rattle.pvs_terms.specs.Measures.{measure_of, ref_measure}
+use Rattle.pvs_terms.specs.code.Shapes.{shape_of}
+use Rattle.pvs_terms.specs.code.Measures.{measure_of, ref_measure}
 use Rattle.pvs_terms.specs.Sorts.{IsSorted, IsSortedRef}
 
 abbrev pub reference_of : List Text → RefEntry → Reference

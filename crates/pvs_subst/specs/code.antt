@@ -1,0 +1,3 @@
+pub mod Compound
+pub mod Faults
+pub mod Memo
