@@ -1,13 +1,14 @@
 use Rattle.std.proofs.Common.{◌≡◌, ◌<◌, ◌≤◌, ◌∙◌, ◌+◌, ℕ, List, [], length, drop, Some, None, if◌then◌else◌, refl, rules, sym, ap, subst}
 use Rattle.std.proofs.lemmas.List.{drop_all}
+use Rattle.std.proofs.lemmas.Result.{err_from_is_err_and}
 use Rattle.std.specs.Option.{option_or}
 use Rattle.pvs_base.specs.declared.place.Pos.{Pos}
 use Rattle.pvs_terms.proofs.StoredLaws.{extends_trans}
 use Rattle.pvs_theory.specs.Entries.{entry_of, is_constant}
-use Rattle.pvs_theory.specs.code.Fault.{Elaborated}
+use Rattle.pvs_theory.specs.code.Fault.{Elaborated, FailsElab}
 use Rattle.pvs_theory.specs.code.Index.{value_of}
 use Rattle.pvs_theory.specs.code.Shown.{IsEntryOf, entry_shown}
-use Rattle.pvs_theory.proofs.EntryLaws.{AreSoFar, entry_added}
+use Rattle.pvs_theory.proofs.EntryLaws.{AreSoFar, entry_added, entry_faulty}
 use Rattle.pvs_theory.proofs.Loops.{left_more}
 use Rattle.pvs_theory.proofs.entries.entries.Goals as goal
 
@@ -50,3 +51,21 @@ returns-in_err-entry-clause-kept c = extends_trans c.loop-decl.invariant.kept c.
 
 pub returns-in_err-push_entry-clause-kept : goal.returns-in_err-push_entry-clause-kept
 returns-in_err-push_entry-clause-kept c = extends_trans c.loop-decl.invariant.kept c.in_ok-entry.ensures.kept
+
+pub returns-in_err-entry-clause-entries : goal.returns-in_err-entry-clause-entries
+returns-in_err-entry-clause-entries c =
+    let text = c.args.text.now in
+    let ds = c.args.decls.now in
+    let i = c.loop-decl.decl-index in
+    let d = c.decl-item.result in
+    let seen = c.loop-decl.invariant in
+    let s = c.loop-decl.store in
+    let old = c.loop-decl.scope.constants in
+    let es = c.loop-decl.entries.items in
+    let f = c.in_err-entry.field-0.0 in
+    let inside : c.loop-decl.decl-index < length c.args.decls.now = search rules in
+    let so_far = subst (λ xs. AreSoFar s text c.args.at old es xs ds) (left_more ds i d inside c.decl-item.is) seen.so_far in
+    let faulty = subst (λ (p : Pos). FailsElab f (entry_of text p (value_of old) d)) seen.place
+    (subst (λ (u : List ℕ). FailsElab f (entry_of u c.loop-decl.scope.at (value_of old) d)) seen.text c.in_err-entry.ensures.entry) in
+    let p = err_from_is_err_and c.from_residual.result c.from_residual.ensures.1 in
+    rw (p.1, p.2) (entry_faulty s s text c.args.at old old es d (drop (i + 1) ds) ds so_far f faulty)
