@@ -1,5 +1,5 @@
 -- The core tree of each form of expression, by those of its parts.
-use Rattle.std.proofs.Common.{◌≡◌, ◌∙◌, refl, sym, ap, subst, ℕ, Bool, List, Option, Result, Ok, Err}
+use Rattle.std.proofs.Common.{◌≡◌, ◌∙◌, sym, ap, subst, ℕ, List, Option, Result, Ok}
 use Rattle.std.specs.Prelude.{⊤}
 use Rattle.pvs_base.specs.declared.place.Pos.{Pos}
 use Rattle.pvs_base.specs.declared.code.Fault.{Fault}
@@ -16,7 +16,8 @@ use Rattle.pvs_terms.proofs.StoredLaws.{extends_refl, extends_trans}
 use Rattle.pvs_theory.specs.declared.entries.Placed as program_placed
 use Rattle.pvs_theory.specs.declared.fault.ElabFault.{ElabFault}
 use Rattle.pvs_theory.specs.code.Fault.{Elaborated, GivesElab}
-use Rattle.pvs_theory.specs.Entries.{Constants, Placed, connective, core, core_step, limited, negation, actual_step, type_step, binding_step, inst_step, part_step, name_step}
+use Rattle.pvs_theory.specs.Entries.{Constants, Placed, connective, core, core_step, limited, negation}
+use Rattle.pvs_theory.specs.Forms.{name_step, no_step}
 use Rattle.pvs_theory.specs.code.Shown.{IsPlacedOf, placed_at}
 use Rattle.pvs_theory.proofs.EntryLaws.{after_tree}
 
@@ -24,23 +25,23 @@ module _ (text : List ℕ) (at : Pos) (constants : Constants) where
   pub core_paren : (x : Expr) (pos : Pos) → core text at constants (expr.Paren x pos) ≡ (core text at constants x >>= λ a. Ok (record { at = pos; tree = a.tree }))
   core_paren x pos =
       ap (core text at constants) (sym (expr.rolls-Paren x pos))
-      ∙ fold-roll-Expr ⊤ (Result Placed Fault) ⊤ ⊤ ⊤ ⊤ (Option Word) actual_step (core_step text at constants) type_step binding_step inst_step part_step name_step (Expr-F.Paren x pos)
+      ∙ fold-roll-Expr ⊤ (Result Placed Fault) ⊤ ⊤ ⊤ ⊤ (Option Word) no_step (core_step text at constants) no_step no_step no_step no_step name_step (Expr-F.Paren x pos)
 
   pub core_not : (x : Expr) (pos : Pos) → core text at constants (expr.Not x pos) ≡ (core text at constants x >>= λ a. limited pos (negation a.tree))
   core_not x pos =
       ap (core text at constants) (sym (expr.rolls-Not x pos))
-      ∙ fold-roll-Expr ⊤ (Result Placed Fault) ⊤ ⊤ ⊤ ⊤ (Option Word) actual_step (core_step text at constants) type_step binding_step inst_step part_step name_step (Expr-F.Not x pos)
+      ∙ fold-roll-Expr ⊤ (Result Placed Fault) ⊤ ⊤ ⊤ ⊤ (Option Word) no_step (core_step text at constants) no_step no_step no_step no_step name_step (Expr-F.Not x pos)
 
   pub core_cond : (c x y : Expr) (pos : Pos) → core text at constants (expr.Cond c x y pos)
       ≡ (core text at constants c >>= λ t. core text at constants x >>= λ a. core text at constants y >>= λ b. limited pos (If t.tree a.tree b.tree))
   core_cond c x y pos =
       ap (core text at constants) (sym (expr.rolls-Cond c x y pos))
-      ∙ fold-roll-Expr ⊤ (Result Placed Fault) ⊤ ⊤ ⊤ ⊤ (Option Word) actual_step (core_step text at constants) type_step binding_step inst_step part_step name_step (Expr-F.Cond c x y pos)
+      ∙ fold-roll-Expr ⊤ (Result Placed Fault) ⊤ ⊤ ⊤ ⊤ (Option Word) no_step (core_step text at constants) no_step no_step no_step no_step name_step (Expr-F.Cond c x y pos)
 
   pub core_infix : (o : InfixWord) (x y : Expr) → core text at constants (expr.Infix o x y) ≡ (core text at constants x >>= λ a. core text at constants y >>= λ b. connective at o a b)
   core_infix o x y =
       ap (core text at constants) (sym (expr.rolls-Infix o x y))
-      ∙ fold-roll-Expr ⊤ (Result Placed Fault) ⊤ ⊤ ⊤ ⊤ (Option Word) actual_step (core_step text at constants) type_step binding_step inst_step part_step name_step (Expr-F.Infix o x y)
+      ∙ fold-roll-Expr ⊤ (Result Placed Fault) ⊤ ⊤ ⊤ ⊤ (Option Word) no_step (core_step text at constants) no_step no_step no_step no_step name_step (Expr-F.Infix o x y)
 
 -- what the answer of a call says, in the store after it
 abbrev pub Gives : Stored → Result program_placed.Placed ElabFault → Result Placed Fault → Type 0

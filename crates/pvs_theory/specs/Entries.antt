@@ -8,7 +8,7 @@ use Rattle.pvs_syntax.specs.declared.word.Word.{Word}
 use Rattle.pvs_syntax.specs.declared.expression.Expr.{Expr}
 use Rattle.pvs_syntax.specs.declared.expression.InfixWord.{InfixWord}
 use Rattle.pvs_syntax.specs.declared.expression.InfixWord.TheVariants as infix_word
-use Rattle.pvs_syntax.specs.declared.expression.Actual.TheOpen.{Actual-F, Expr-F, TypeExpr-F, Binding-F, InstExpr-F, LetPart-F, NameExpr-F}
+use Rattle.pvs_syntax.specs.declared.expression.Actual.TheOpen.{Expr-F}
 use Rattle.pvs_syntax.specs.declared.expression.Actual.TheFolds.{fold-Expr}
 use Rattle.pvs_syntax.specs.declared.unit.Decl.{Decl}
 use Rattle.pvs_syntax.specs.declared.unit.Decl.TheVariants as decl
@@ -16,7 +16,7 @@ use Rattle.pvs_syntax.specs.declared.unit.FormulaWord.{FormulaWord}
 use Rattle.pvs_terms.specs.Tree.{Tree, Own, True, False, Const, If}
 use Rattle.pvs_types.specs.Limits.{is_within_limits}
 use Rattle.pvs_syntax.specs.Words.{spelling}
-use Rattle.pvs_theory.specs.Forms.{plain}
+use Rattle.pvs_theory.specs.Forms.{name_step, no_step}
 
 -- a boolean constant, or an axiom or a lemma with its formula
 pub data EntryKind : Type 0 where
@@ -83,12 +83,9 @@ abbrev pub named_constant : List ℕ → Pos → Constants → Option Word → R
 named_constant text at constants None = Err (out_of_profile at)
 named_constant text at constants (Some w) = constant w.pos (constants (spelling text w))
 
--- Each step gives of one layer of a tree, of an expression its core tree or the first fault, and of a name the word where it is plain, where
--- the same of its parts stands in place of them. The faults of parts come first, from the left, and then that of the whole.
-abbrev pub Step : (Type 0 → Type 0 → Type 0 → Type 0 → Type 0 → Type 0 → Type 0 → Type 0) → Type 0 → Type 0
-Step F X = F ⊤ (Result Placed Fault) ⊤ ⊤ ⊤ ⊤ (Option Word) → X
-
-abbrev pub core_step : List ℕ → Pos → Constants → Step Expr-F (Result Placed Fault)
+-- The core tree of one layer of an expression, or the first fault, where the same of its parts stands in place of them. The faults of parts
+-- come first, from the left, and then that of the whole.
+abbrev pub core_step : List ℕ → Pos → Constants → Expr-F ⊤ (Result Placed Fault) ⊤ ⊤ ⊤ ⊤ (Option Word) → Result Placed Fault
 core_step text at constants (Expr-F.Truth b pos) = Ok (record { at = pos; tree = if b then True else False })
 core_step text at constants (Expr-F.NameTerm w) = named_constant text at constants w
 core_step text at constants (Expr-F.Paren x pos) = x >>= λ a. Ok (record { at = pos; tree = a.tree })
@@ -97,29 +94,11 @@ core_step text at constants (Expr-F.Not x pos) = x >>= λ a. limited pos (negati
 core_step text at constants (Expr-F.Infix o x y) = x >>= λ a. y >>= λ b. connective at o a b
 core_step text at constants _ = Err (out_of_profile at)
 
-abbrev pub name_step : Step NameExpr-F (Option Word)
-name_step n = plain n.qualifier n.word
-
-abbrev pub actual_step : Step Actual-F ⊤
-actual_step a = tt
-
-abbrev pub type_step : Step TypeExpr-F ⊤
-type_step a = tt
-
-abbrev pub binding_step : Step Binding-F ⊤
-binding_step b = tt
-
-abbrev pub inst_step : Step InstExpr-F ⊤
-inst_step i = tt
-
-abbrev pub part_step : Step LetPart-F ⊤
-part_step p = tt
-
 -- The core tree of an expression over these constants, or the first fault in it: a name that is unknown, or a tree that is too large.
 -- Parentheses leave no trace but the place.
 abbrev pub core : List ℕ → Pos → Constants → Expr → Result Placed Fault
 core text at constants =
-    fold-Expr ⊤ (Result Placed Fault) ⊤ ⊤ ⊤ ⊤ (Option Word) actual_step (core_step text at constants) type_step binding_step inst_step part_step name_step
+    fold-Expr ⊤ (Result Placed Fault) ⊤ ⊤ ⊤ ⊤ (Option Word) no_step (core_step text at constants) no_step no_step no_step no_step name_step
 
 abbrev pub named : List ℕ → Word → EntryKind → Entry
 named text w kind = record { name = spelling text w; kind = kind }

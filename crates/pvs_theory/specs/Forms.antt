@@ -7,7 +7,7 @@ use Rattle.pvs_syntax.specs.declared.expression.TypeExpr.{TypeExpr}
 use Rattle.pvs_syntax.specs.declared.expression.NameExpr.{NameExpr}
 use Rattle.pvs_syntax.specs.declared.expression.InfixWord.{InfixWord}
 use Rattle.pvs_syntax.specs.declared.expression.InfixWord.TheVariants as infix_word
-use Rattle.pvs_syntax.specs.declared.expression.Actual.TheOpen.{Actual-F, Expr-F, TypeExpr-F, Binding-F, InstExpr-F, LetPart-F, NameExpr-F}
+use Rattle.pvs_syntax.specs.declared.expression.Actual.TheOpen.{Expr-F, TypeExpr-F, NameExpr-F}
 use Rattle.pvs_syntax.specs.declared.expression.Actual.TheFolds.{fold-Expr, fold-NameExpr, fold-TypeExpr}
 use Rattle.pvs_syntax.specs.declared.unit.Decl.{Decl}
 use Rattle.pvs_syntax.specs.declared.unit.Decl.TheVariants as decl
@@ -16,22 +16,22 @@ use Rattle.pvs_syntax.specs.declared.unit.FormulaWord.TheVariants as formula_wor
 use Rattle.pvs_syntax.specs.declared.unit.Theory.{Theory}
 use Rattle.pvs_syntax.specs.Words.{spelling}
 
--- Each step gives of one layer of a tree what a form is, where the same of its parts stands in place of them: of an expression whether it is
--- built, of a type and of a name the word where it is a plain name, and nothing of the rest.
-abbrev pub Step : (Type 0 → Type 0 → Type 0 → Type 0 → Type 0 → Type 0 → Type 0 → Type 0) → Type 0 → Type 0
-Step F X = F ⊤ Bool (Option Word) ⊤ ⊤ ⊤ (Option Word) → X
-
 -- the word of a name that no theory qualifies
 abbrev pub plain : Option ⊤ → Word → Option Word
 plain None w = Some w
 plain (Some i) w = None
 
-abbrev pub name_step : Step NameExpr-F (Option Word)
+-- Each step gives what a layer of a tree comes to, where the same of its parts stands in place of them: of an expression whether it is built,
+-- of a type and of a name the word where it is a plain name, and nothing of the rest.
+abbrev pub name_step : {E T : Type 0} → NameExpr-F ⊤ E T ⊤ ⊤ ⊤ (Option Word) → Option Word
 name_step n = plain n.qualifier n.word
 
-abbrev pub type_step : Step TypeExpr-F (Option Word)
+abbrev pub type_step : TypeExpr-F ⊤ Bool (Option Word) ⊤ ⊤ ⊤ (Option Word) → Option Word
 type_step (TypeExpr-F.NameType w) = w
 type_step _ = None
+
+abbrev pub no_step : {X : Type 0} → X → ⊤
+no_step x = tt
 
 -- AND, OR and IMPLIES
 abbrev pub is_connective : InfixWord → Bool
@@ -40,7 +40,7 @@ is_connective infix_word.Or = true
 is_connective infix_word.Implies = true
 is_connective _ = false
 
-abbrev pub expr_step : Step Expr-F Bool
+abbrev pub expr_step : Expr-F ⊤ Bool (Option Word) ⊤ ⊤ ⊤ (Option Word) → Bool
 expr_step (Expr-F.Truth b pos) = true
 expr_step (Expr-F.NameTerm w) = is_some w
 expr_step (Expr-F.Paren x pos) = x
@@ -49,29 +49,17 @@ expr_step (Expr-F.Not x pos) = x
 expr_step (Expr-F.Infix o x y) = is_connective o && x && y
 expr_step _ = false
 
-abbrev pub actual_step : Step Actual-F ⊤
-actual_step a = tt
-
-abbrev pub binding_step : Step Binding-F ⊤
-binding_step b = tt
-
-abbrev pub inst_step : Step InstExpr-F ⊤
-inst_step i = tt
-
-abbrev pub part_step : Step LetPart-F ⊤
-part_step p = tt
-
 -- whether an expression is built
 abbrev pub is_built : Expr → Bool
-is_built = fold-Expr ⊤ Bool (Option Word) ⊤ ⊤ ⊤ (Option Word) actual_step expr_step type_step binding_step inst_step part_step name_step
+is_built = fold-Expr ⊤ Bool (Option Word) ⊤ ⊤ ⊤ (Option Word) no_step expr_step type_step no_step no_step no_step name_step
 
 -- the word of a name that no theory qualifies
 abbrev pub plain_name : NameExpr → Option Word
-plain_name = fold-NameExpr ⊤ Bool (Option Word) ⊤ ⊤ ⊤ (Option Word) actual_step expr_step type_step binding_step inst_step part_step name_step
+plain_name = fold-NameExpr ⊤ Bool (Option Word) ⊤ ⊤ ⊤ (Option Word) no_step expr_step type_step no_step no_step no_step name_step
 
 -- the word of a type that is such a name
 abbrev pub plain_type : TypeExpr → Option Word
-plain_type = fold-TypeExpr ⊤ Bool (Option Word) ⊤ ⊤ ⊤ (Option Word) actual_step expr_step type_step binding_step inst_step part_step name_step
+plain_type = fold-TypeExpr ⊤ Bool (Option Word) ⊤ ⊤ ⊤ (Option Word) no_step expr_step type_step no_step no_step no_step name_step
 
 -- whether a word is the name of the type of truth values
 abbrev pub is_boolean : List ℕ → Option Word → Bool
