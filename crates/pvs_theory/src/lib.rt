@@ -14,3 +14,6 @@ pub use entries::Entry;
 pub use index::{FormulaIndex, add_formula};
 pub use names::spelling_of;
 pub use theories::{Part, parts};
+
+#[cfg(test)]
+mod tests;
