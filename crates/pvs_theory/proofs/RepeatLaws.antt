@@ -7,7 +7,7 @@ use Rattle.pvs_theory.specs.Theories.{declared_by, first_repeated, repeated}
 use Rattle.pvs_theory.proofs.Loops.{first_more, left_more}
 
 module _ (text : List ℕ) where
-  -- the declarations that are left, where one more is told apart
+  -- the declarations that are left, where the first of them stands apart
   repeated_at : (ds : List Decl) (i : ℕ) (d : Decl) → i < length ds → d ≡ get_or ds i d
       → first_repeated text (take i ds) (drop i ds) ≡ option_or (repeated text (take i ds) (declared_by d)) (first_repeated text (take (i + 1) ds) (drop (i + 1) ds))
   repeated_at ds i d inside at =

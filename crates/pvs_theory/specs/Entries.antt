@@ -109,7 +109,7 @@ entry_of text at constants (decl.ConstDecl w params ty body) = Ok (named text w 
 entry_of text at constants (decl.Formula w word x) = core text at constants x >>= λ p. Ok (named text w (Formula word p.tree))
 entry_of text at constants _ = Err (out_of_profile at)
 
--- the entries of declarations that follow these entries, with these in front, or the first fault
+-- these entries and those of the declarations that follow them, or the first fault
 abbrev pub entries_after : List ℕ → Pos → List Entry → List Decl → Result (List Entry) Fault
 entries_after text at es [] = Ok es
 entries_after text at es (d ∷ ds) = entry_of text at (resolve es) d >>= λ e. entries_after text at (es ++ e ∷ []) ds

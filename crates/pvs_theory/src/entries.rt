@@ -48,8 +48,8 @@ struct Scope<'a> {
     constants: Index<'a, u32>,
 }
 
-/// Gives the name of an entry that is a constant its number, where it has none. There is no memory
-/// for a theory whose entries have larger numbers than 32 bits hold.
+/// Gives the name of an entry that is a constant its number, where it has none. A number past 32
+/// bits, as a reference has them, counts as out of memory.
 fn add_entry(scope: &mut Scope<'_>, entry: &Entry, number: usize) -> Result<(), AllocError>
     ensures text { scope.new.text.now ≡ scope.old.text.now }
     ensures at { scope.new.at ≡ scope.old.at }
@@ -219,7 +219,7 @@ fn constant(store: &mut Store, at: Pos, number: u32) -> Result<Placed, ElabFault
     ensures tree { GivesElab (IsPlacedOf store.new) (placed_at store.new) result (constant at (Some number)) }
     ensures kept { Extends store.old store.new }
 {
-    // A constant passes no limit, so that only memory can be wanting.
+    // A constant passes no limit, so only memory can run out.
     match store.reference(RefKind::Own(number), &[]) {
         Ok(reference) => limited(store, at, Node::Const(reference)),
         Err(_) => Err(ElabFault::Memory),

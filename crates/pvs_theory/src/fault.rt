@@ -1,4 +1,4 @@
-//! What stops a computation: want of memory, or a fault that it reports.
+//! What refuses the declarations of a theory: a fault in them, or memory that runs out.
 
 ghost use Rattle.std.specs.Prelude.{◌≡◌};
 ghost use Rattle.pvs_theory.specs.declared.fault.ElabFault.TheVariants as elab_fault;
@@ -12,7 +12,7 @@ pub enum ElabFault {
     /// The first fault in them.
     At(Fault),
 
-    /// There is no memory.
+    /// Memory ran out.
     Memory,
 }
 

@@ -32,7 +32,7 @@ impl<'a, V: Copy + Drop> Index<'a, V> {
         self.values.get(&name).copied()
     }
 
-    /// Gives a name a value where it has none, and tells whether it had none.
+    /// Gives a name a value where it has none, and says whether it had none.
     pub fn add(&mut self, name: &'a [u8], value: V) -> Result<bool, AllocError>
         ensures is_new { IfOk result (λ b. b ≡ not (is_some (value_of self.old name.now))) }
         ensures values { OnOk result ((other : List ℕ) → value_of self.new other ≡ option_or (value_of self.old other) (if bytes_eq name.now other then Some value else None)) }
@@ -45,7 +45,7 @@ impl<'a, V: Copy + Drop> Index<'a, V> {
     }
 }
 
-/// Adds a name to those of an index, and tells whether it was not among them.
+/// Adds a name to those of an index, and says whether it is new there.
 pub fn add_name<'a>(names: &mut Index<'a, ()>, name: &'a [u8]) -> Result<bool, AllocError>
     ensures is_new { (seen : List (List ℕ)) → HasNames names.old seen → IfOk result (λ b. b ≡ not (has_name name.now seen)) }
     ensures names { OnOk result ((seen : List (List ℕ)) → HasNames names.old seen → HasNames names.new (seen ++ name.now ∷ [])) }
