@@ -1,9 +1,9 @@
 -- What one more entry, and one more part, do to the lemmas of a unit.
 use Rattle.std.proofs.Common.{◌≡◌, ◌∙◌, ℕ, Bool, true, false, List, [], ◌∷◌, ◌++◌, Option, Some, None, bytes_eq, if◌then◌else◌, refl, sym, ap}
 use Rattle.pvs_terms.specs.Tree.{Tree}
-use Rattle.pvs_cli.specs.Names.{FormulaName}
-use Rattle.pvs_cli.specs.Entries.{Entry}
-use Rattle.pvs_cli.specs.Theories.{Part}
+use Rattle.pvs_theory.specs.Names.{FormulaName}
+use Rattle.pvs_theory.specs.Entries.{Entry}
+use Rattle.pvs_theory.specs.Theories.{Part}
 use Rattle.pvs_cli.specs.Verdicts.{lemma_in, lemma_named, lemma_of, or_else, part_lemma, theory_lemma}
 
 pub or_else-None : (o : Option Tree) → or_else o None ≡ o

@@ -1,11 +1,5 @@
 pub mod Loops
-pub mod TreeLists
 pub mod InputLaws
-pub mod SoundSteps
-pub mod SoundReplay
-pub mod IndexLaws
-pub mod Resolving
-pub mod RepeatLaws
 pub mod PartLaws
 pub mod LemmaLaws
 pub mod OutcomeLaws

@@ -3,8 +3,8 @@ use Rattle.std.proofs.Common.{◌≡◌, ◌∙◌, ◌||◌, Bool, true, false,
 use Rattle.std.proofs.Math.Path.{fun_ext}
 use Rattle.std.specs.Option.{option_or}
 use Rattle.std.specs.List.{list_any}
-use Rattle.pvs_cli.specs.Names.{FormulaName}
-use Rattle.pvs_cli.specs.Theories.{Part}
+use Rattle.pvs_theory.specs.Names.{FormulaName}
+use Rattle.pvs_theory.specs.Theories.{Part}
 use Rattle.pvs_cli.specs.Verdicts.{Scripts}
 use Rattle.pvs_cli.specs.Outcomes.{PartOutcome, LemmaStatus, Complete, Unproved, names_in, outcomes_after, part_outcome, proves, statuses_of}
 

@@ -1,5 +1,5 @@
--- What one more item does to the parts of a unit.
-use Rattle.std.proofs.Common.{◌≡◌, ◌∙◌, ℕ, List, [], ◌∷◌, ◌++◌, map, Result, Ok, Err, sym, ap, append_assoc, append-nil}
+-- The scripts of the parts of a unit lie in its text.
+use Rattle.std.proofs.Common.{ℕ, List, [], ◌∷◌, ◌++◌, map, Result, Ok, Err}
 use Rattle.std.specs.List.{All}
 use Rattle.std.proofs.lemmas.List.Elements.{All-nil, All-cons, All-head, All-tail}
 use Rattle.pvs_base.specs.declared.code.Fault.{Fault}
@@ -7,8 +7,8 @@ use Rattle.pvs_syntax.specs.declared.unit.Item.{Item}
 use Rattle.pvs_syntax.specs.declared.unit.Item.TheVariants as item
 use Rattle.pvs_parser.specs.Text.{SpanIn}
 use Rattle.pvs_syntax.specs.Words.{spelling}
-use Rattle.pvs_cli.specs.Entries.{Entry}
-use Rattle.pvs_cli.specs.Theories.{Part, part_of, parts_after, parts_of, theory_entries, theory_part}
+use Rattle.pvs_theory.specs.Entries.{Entry}
+use Rattle.pvs_theory.specs.Theories.{part_of, parts_after, theory_entries, theory_part}
 use Rattle.pvs_cli.specs.Verdicts.{IsPartIn}
 
 -- what holds of each image
@@ -17,16 +17,6 @@ all_from_map P f [] h = All-nil (λ x. P (f x))
 all_from_map P f (x ∷ xs) h = All-cons (λ y. P (f y)) x xs (All-head P (f x) (map f xs) h) (all_from_map P f xs (All-tail P (f x) (map f xs) h))
 
 module _ (text : List ℕ) where
-  -- the parts of the items before an item, that of the item, and those of the items after it
-  pub parts_split : (earlier before after : List Item) (i : Item) → parts_after text earlier (before ++ i ∷ after) ≡ parts_after text earlier before ++ part_of text (earlier ++ before) i ∷ parts_after text (earlier ++ before ++ i ∷ []) after
-  parts_split earlier [] after i = ap (λ (is : List Item). part_of text is i ∷ parts_after text (is ++ i ∷ []) after) (sym (append-nil earlier))
-  parts_split earlier (b ∷ before) after i =
-      ap (λ (ps : List Part). part_of text earlier b ∷ ps) (parts_split (earlier ++ b ∷ []) before after i)
-      ∙ ap (λ (is : List Item). part_of text earlier b ∷ parts_after text (earlier ++ b ∷ []) before ++ part_of text is i ∷ parts_after text (is ++ i ∷ []) after) (append_assoc earlier (b ∷ []) before)
-
-  pub parts_push : (is : List Item) (i : Item) → parts_of text (is ++ i ∷ []) ≡ parts_of text is ++ part_of text is i ∷ []
-  parts_push is i = parts_split [] is [] i
-
   theory_in : (name : List ℕ) (r : Result (List Entry) Fault) → IsPartIn (theory_part name r)
   theory_in name (Ok es) = tt
   theory_in name (Err f) = tt

@@ -13,15 +13,15 @@ use Rattle.pvs_syntax.specs.declared.unit.Decl.TheVariants as decl
 use Rattle.pvs_syntax.specs.declared.unit.FormulaWord.{FormulaWord}
 use Rattle.pvs_syntax.specs.declared.unit.FormulaWord.TheVariants as formula_word
 use Rattle.pvs_terms.specs.Tree.{Tree}
-use Rattle.pvs_cli.specs.declared.distinct.Declared.{Declared}
-use Rattle.pvs_cli.specs.declared.distinct.Declared.TheVariants as declared
+use Rattle.pvs_theory.specs.declared.distinct.Declared.{Declared}
+use Rattle.pvs_theory.specs.declared.distinct.Declared.TheVariants as declared
 use Rattle.pvs_syntax.specs.Words.{spelling}
-use Rattle.pvs_cli.specs.Entries.{Entry, EntryKind, Constant, Formula, core, named, entries_after, entries_of}
+use Rattle.pvs_theory.specs.Entries.{Entry, EntryKind, Constant, Formula, Placed, core, named, entries_after, entries_of, resolve}
 use Rattle.pvs_base.specs.Answers.{◌>>=◌}
-use Rattle.pvs_cli.specs.Theories.{declared_by, first_repeated, formula_name, formula_names, has_name, repeated}
+use Rattle.pvs_theory.specs.Theories.{declared_by, first_repeated, formula_name, formula_names, has_name, repeated}
 use Rattle.pvs_cli.specs.Verdicts.{lemma_formula, lemma_of, or_else, lemma_named}
-use Rattle.pvs_cli.proofs.IndexLaws.{any_push}
-use Rattle.pvs_cli.proofs.Loops.{flat_push}
+use Rattle.pvs_theory.proofs.IndexLaws.{any_push}
+use Rattle.pvs_theory.proofs.Loops.{flat_push}
 
 -- whether no two of the names are the same
 abbrev pub are_distinct : List (List ℕ) → Bool
@@ -90,14 +90,14 @@ names_after text at es [] fs h = let e : es ≡ fs = cc in ap entry_names (sym e
 names_after text at es (decl.ConstDecl w params ty body ∷ ds) fs h =
     names_after text at (es ++ named text w Constant ∷ []) ds fs h
     ∙ entry_names_more es (named text w Constant) (formula_names text ds)
-names_after text at es (decl.Formula w word x ∷ ds) fs h = go (core text at es x) (λ e. names_after text at (es ++ e ∷ []) ds fs) h
+names_after text at es (decl.Formula w word x ∷ ds) fs h = go (core text at (resolve es) x) (λ e. names_after text at (es ++ e ∷ []) ds fs) h
   where
-    go : (r : Result Tree Fault)
+    go : (r : Result Placed Fault)
         → ((e : Entry) → entries_after text at (es ++ e ∷ []) ds ≡ Ok fs → entry_names fs ≡ entry_names (es ++ e ∷ []) ++ formula_names text ds)
-        → ((r >>= λ t. Ok (named text w (Formula word t))) >>= λ e. entries_after text at (es ++ e ∷ []) ds) ≡ Ok fs
+        → ((r >>= λ p. Ok (named text w (Formula word p.tree))) >>= λ e. entries_after text at (es ++ e ∷ []) ds) ≡ Ok fs
         → entry_names fs ≡ entry_names es ++ (spelling text w ∷ formula_names text ds)
     go (Err f) k h = cc
-    go (Ok t) k h = k (named text w (Formula word t)) h ∙ entry_names_more es (named text w (Formula word t)) (formula_names text ds)
+    go (Ok p) k h = k (named text w (Formula word p.tree)) h ∙ entry_names_more es (named text w (Formula word p.tree)) (formula_names text ds)
 names_after text at es (_ ∷ ds) fs h = cc
 
 pub names_of_entries : (text : List ℕ) (at : Pos) (ds : List Decl) (es : List Entry) → entries_of text at ds ≡ Ok es → entry_names es ≡ formula_names text ds

@@ -11,13 +11,13 @@ use Rattle.pvs_syntax.specs.declared.expression.Actual.TheOpen.{Expr-F, TypeExpr
 use Rattle.pvs_syntax.specs.declared.expression.Actual.TheFolds.{fold-roll-Expr, fold-roll-NameExpr, fold-roll-TypeExpr}
 use Rattle.pvs_syntax.specs.declared.unit.FormulaWord.TheVariants as formula_word
 use Rattle.pvs_parser.specs.Text.{IsAnswer}
-use Rattle.pvs_terms.specs.Tree.{Tree, Own, Const}
+use Rattle.pvs_terms.specs.Tree.{Own, Const}
 use Rattle.pvs_sem.specs.Truth.{Interpretation}
-use Rattle.pvs_cli.specs.Forms as forms
-use Rattle.pvs_cli.specs.Entries.{Entry, Constant, Formula, core, entries_after, entries_of, named, named_constant, out_of_profile}
+use Rattle.pvs_theory.specs.Forms as forms
+use Rattle.pvs_theory.specs.Entries.{Entry, Constant, Constants, Formula, Placed, core, entries_after, entries_of, named, named_constant, out_of_profile, resolve}
 use Rattle.pvs_base.specs.Answers.{◌>>=◌}
-use Rattle.pvs_cli.specs.Entries as entries_spec
-use Rattle.pvs_cli.specs.Theories.{Accepted, first_repeated, unless_repeated, theory_entries, theory_part}
+use Rattle.pvs_theory.specs.Entries as entries_spec
+use Rattle.pvs_theory.specs.Theories.{Accepted, first_repeated, unless_repeated, theory_entries, theory_part}
 use Rattle.pvs_report.specs.Lines.{Line, FormulaLine, TotalLine, OpenWord, totals_of}
 use Rattle.pvs_cli.specs.Reporting.{of_text, outcome_lines, unit_lines, with_total}
 use Rattle.pvs_cli.specs.Verdicts.{Scripts}
@@ -47,11 +47,11 @@ module _ (w : Word) where
       ∙ ap is_some plain_name
 
   -- the core tree of a plain name
-  pub core_name : (text : List ℕ) (at : Pos) (es : List Entry) → core text at es (expr.NameTerm (plain w)) ≡ named_constant text at es (Some w)
-  core_name text at es =
-      ap (core text at es) (sym (expr.rolls-NameTerm (plain w)))
-      ∙ fold-roll-Expr ⊤ (Result Tree Fault) ⊤ ⊤ ⊤ ⊤ (Option Word) entries_spec.actual_step (entries_spec.core_step text at es) entries_spec.type_step entries_spec.binding_step entries_spec.inst_step entries_spec.part_step entries_spec.name_step (Expr-F.NameTerm (plain w))
-      ∙ ap (named_constant text at es) (fold-roll-NameExpr ⊤ (Result Tree Fault) ⊤ ⊤ ⊤ ⊤ (Option Word) entries_spec.actual_step (entries_spec.core_step text at es) entries_spec.type_step entries_spec.binding_step entries_spec.inst_step entries_spec.part_step entries_spec.name_step (record { qualifier = None; word = w }))
+  pub core_name : (text : List ℕ) (at : Pos) (constants : Constants) → core text at constants (expr.NameTerm (plain w)) ≡ named_constant text at constants (Some w)
+  core_name text at constants =
+      ap (core text at constants) (sym (expr.rolls-NameTerm (plain w)))
+      ∙ fold-roll-Expr ⊤ (Result Placed Fault) ⊤ ⊤ ⊤ ⊤ (Option Word) entries_spec.actual_step (entries_spec.core_step text at constants) entries_spec.type_step entries_spec.binding_step entries_spec.inst_step entries_spec.part_step entries_spec.name_step (Expr-F.NameTerm (plain w))
+      ∙ ap (named_constant text at constants) (fold-roll-NameExpr ⊤ (Result Placed Fault) ⊤ ⊤ ⊤ ⊤ (Option Word) entries_spec.actual_step (entries_spec.core_step text at constants) entries_spec.type_step entries_spec.binding_step entries_spec.inst_step entries_spec.part_step entries_spec.name_step (record { qualifier = None; word = w }))
 
 -- ---- The theory is accepted.
 
@@ -68,7 +68,7 @@ built : forms.is_built_theory bytes small ≡ true
 built = ap (λ (b : Bool). b && (forms.is_built says_p && true)) (ap (forms.is_boolean bytes) (plain_type (word 19 23 20))) ∙ ap (λ (b : Bool). b && true) (built_name (word 33 34 34))
 
 read : entries_of bytes small.name.pos small.decls ≡ Ok entries
-read = ap (λ (r : Result Tree Fault). r >>= (λ t. Ok (named bytes (word 24 25 25) (Formula formula_word.Lemma t))) >>= (λ e. entries_after bytes small.name.pos (p_entry ∷ e ∷ []) [])) (core_name (word 33 34 34) bytes small.name.pos (p_entry ∷ []))
+read = ap (λ (r : Result Placed Fault). r >>= (λ p. Ok (named bytes (word 24 25 25) (Formula formula_word.Lemma p.tree))) >>= (λ e. entries_after bytes small.name.pos (p_entry ∷ e ∷ []) [])) (core_name (word 33 34 34) bytes small.name.pos (resolve (p_entry ∷ [])))
 
 accepted : theory_entries bytes [] small ≡ Ok entries
 accepted = ap (λ (b : Bool). if not b then Err (out_of_profile small.name.pos) else unless_repeated (first_repeated bytes [] small.decls) (entries_of bytes small.name.pos small.decls)) built ∙ read

@@ -5,10 +5,11 @@ use Rattle.pvs_syntax.specs.declared.unit.Item.{Item}
 use Rattle.pvs_syntax.specs.declared.unit.FormulaWord.TheVariants as formula_word
 use Rattle.pvs_terms.specs.Tree.{Tree}
 use Rattle.pvs_sem.specs.Truth.{truth}
-use Rattle.pvs_cli.specs.Names.{FormulaName}
-use Rattle.pvs_cli.specs.Entries.{Entry, EntryKind, Constant, Formula}
-use Rattle.pvs_cli.specs.Theories.{Accepted, parts_of}
-use Rattle.pvs_cli.specs.Replaying.{Outcome, Proved, Open, Refused}
+use Rattle.pvs_theory.specs.Names.{FormulaName}
+use Rattle.pvs_theory.specs.Entries.{Entry, EntryKind, Constant, Formula}
+use Rattle.pvs_theory.specs.Theories.{Accepted, parts_of}
+use Rattle.pvs_cli.specs.declared.outcome.Outcome.{Outcome}
+use Rattle.pvs_cli.specs.declared.outcome.Outcome.TheVariants.{Proved, Open, Refused}
 use Rattle.pvs_cli.specs.Verdicts.{Scripts}
 use Rattle.pvs_cli.specs.Outcomes.{PartOutcome, TheoryAccepted, TheoryRefused, ProofOutcome, LemmaStatus, Complete, Unproved, outcomes_of, proves, statuses_of}
 use Rattle.pvs_report.specs.Lines.{Line, FormulaLine, CompleteWord, TotalLine, totals_of}
@@ -54,7 +55,7 @@ module _ (theory name : List ℕ) (status : FormulaName → LemmaStatus) where
   -- no line of a proof says that a formula is complete
   proof_not_complete : (n : FormulaName) (o : Outcome) → Has (complete theory name) (proof_line n o) → ⊥
   proof_not_complete n Proved h = h
-  proof_not_complete n (Open s) h = h
+  proof_not_complete n Open h = h
   proof_not_complete n (Refused f) (inl e) = cc
   proof_not_complete n (Refused f) (inr h) = h
 

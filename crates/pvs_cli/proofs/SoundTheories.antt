@@ -9,15 +9,15 @@ use Rattle.pvs_syntax.specs.declared.unit.Item.{Item}
 use Rattle.pvs_syntax.specs.declared.unit.Item.TheVariants as item
 use Rattle.pvs_syntax.specs.declared.unit.FormulaWord.TheVariants as formula_word
 use Rattle.pvs_terms.specs.Tree.{Tree}
-use Rattle.pvs_cli.specs.Names.{FormulaName}
+use Rattle.pvs_theory.specs.Names.{FormulaName}
 use Rattle.pvs_syntax.specs.Words.{spelling}
-use Rattle.pvs_cli.specs.Forms.{is_built_theory}
-use Rattle.pvs_cli.specs.Entries.{Entry, Formula, entries_of, out_of_profile}
-use Rattle.pvs_cli.specs.Theories.{Part, Accepted, duplicate, first_repeated, has_name, unless_repeated, part_of, parts_after, parts_of, theory_entries, theory_names, theory_part, accepted_entries}
+use Rattle.pvs_theory.specs.Forms.{is_built_theory}
+use Rattle.pvs_theory.specs.Entries.{Entry, Formula, entries_of, out_of_profile}
+use Rattle.pvs_theory.specs.Theories.{Part, Accepted, duplicate, first_repeated, has_name, unless_repeated, part_of, parts_after, parts_of, theory_entries, theory_names, theory_part, accepted_entries}
 use Rattle.pvs_cli.specs.Verdicts.{lemma_in, lemma_named, or_else, part_lemma}
 use Rattle.pvs_cli.proofs.LemmaLaws.{lemma_in-append}
 use Rattle.pvs_cli.proofs.Members.{Has, has_contained}
-use Rattle.pvs_cli.proofs.PartLaws.{parts_split}
+use Rattle.pvs_theory.proofs.PartLaws.{parts_split}
 use Rattle.pvs_cli.proofs.SoundNames.{are_distinct, distinct_names, entry_names, found_by_name, names_of_entries}
 
 -- what is known of a theory that is accepted

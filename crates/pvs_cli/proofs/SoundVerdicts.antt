@@ -5,16 +5,20 @@ use Rattle.std.proofs.lemmas.Bool.{and_parts, or_cases}
 use Rattle.pvs_base.specs.declared.code.Fault.{Fault}
 use Rattle.pvs_syntax.specs.declared.unit.Proof.{Proof}
 use Rattle.pvs_script.specs.declared.tree.Script.{Script}
-use Rattle.pvs_terms.specs.Tree.{Tree}
+use Rattle.pvs_terms.specs.Tree.{Tree, Ref}
 use Rattle.pvs_sem.specs.Truth.{Interpretation, truth}
-use Rattle.pvs_sem.specs.Sequents.{IsTrueSequent}
-use Rattle.pvs_cli.specs.Names.{FormulaName, is_listed, is_same, named_by}
-use Rattle.pvs_cli.specs.Theories.{Part, Accepted, Rejected, Proving}
-use Rattle.pvs_cli.specs.Replaying.{Outcome, Proved, Open, Refused}
-use Rattle.pvs_cli.specs.Verdicts.{Scripts, goal, lemma_in, proof_outcome, script_outcome, verdict}
+use Rattle.pvs_sequent.specs.Truth.{IsTrueSequent}
+use Rattle.pvs_replay.specs.Logic.{logic_effect}
+use Rattle.pvs_replay.specs.Replaying as replaying
+use Rattle.pvs_replay.specs.Replaying.{replay}
+use Rattle.pvs_replay.proofs.SoundReplay.{logic_sound}
+use Rattle.pvs_theory.specs.Names.{FormulaName, is_listed, is_same, named_by}
+use Rattle.pvs_theory.specs.Theories.{Part, Accepted, Rejected, Proving}
+use Rattle.pvs_cli.specs.declared.outcome.Outcome.{Outcome}
+use Rattle.pvs_cli.specs.declared.outcome.Outcome.TheVariants.{Proved, Open, Refused}
+use Rattle.pvs_cli.specs.Verdicts.{Scripts, goal, lemma_in, proof_outcome, script_outcome, summary, verdict}
 use Rattle.pvs_cli.specs.Outcomes.{is_proved, names_in, outcomes_after, outcomes_of, part_outcome, proves}
-use Rattle.pvs_cli.proofs.IndexLaws.{same_formula}
-use Rattle.pvs_cli.proofs.SoundReplay.{replay_sound}
+use Rattle.pvs_theory.proofs.IndexLaws.{same_formula}
 
 -- TRUE in every interpretation
 abbrev pub IsValid : Tree → Type 0
@@ -32,9 +36,15 @@ goal_sound m t h = go (or_cases (truth m t) false (h refl))
     go (inl e) = e
     go (inr e) = cc
 
+-- a replay whose summary is Proved is proved
+proved_replay : (o : replaying.Outcome) → summary o ≡ Proved → (cited : List Ref) × (uses : List Ref) × (o ≡ replaying.Proved cited uses)
+proved_replay (replaying.Proved fs rs) h = (fs, rs, refl)
+proved_replay (replaying.Open q) h = cc
+proved_replay (replaying.Refused f) h = cc
+
 -- the formula of a goal that a script proves
 pub script_sound : (t : Tree) (r : Result Script Fault) → script_outcome (goal t) r ≡ Proved → IsValid t
-script_sound t (Ok x) h = λ m. goal_sound m t (replay_sound m x (goal t) h)
+script_sound t (Ok x) h = λ m. let p = proved_replay (replay logic_effect x (goal t)) h in goal_sound m t (logic_sound m x (goal t) p.0 p.1 p.2)
 script_sound t (Err f) h = cc
 
 -- a proof that proves has a formula, and it is TRUE
@@ -45,7 +55,7 @@ proof_sound p false (Some t) r h = (t, refl, script_sound t r h)
 
 is_proved_proved : (o : Outcome) → is_proved o ≡ true → o ≡ Proved
 is_proved_proved Proved h = refl
-is_proved_proved (Open s) h = cc
+is_proved_proved Open h = cc
 is_proved_proved (Refused f) h = cc
 
 module _ (scripts : Scripts) (parts : List Part) where

@@ -1,16 +1,6 @@
-pub mod Names
-pub mod Forms
-pub mod Fault
-pub mod Trees
-pub mod Entries
-pub mod Theories
-pub mod Sequents
-pub mod Shown
-pub mod Steps
-pub mod Replaying
-pub mod Replays
 pub mod Verdicts
 pub mod Outcomes
+pub mod Shown
 pub mod Reporting
 pub mod Input
 pub mod Soundness
@@ -18,5 +8,4 @@ pub mod ExitCodes
 pub mod Output
 pub mod SoundFacts
 pub mod OpenExample
-pub mod Index
 pub mod LemmaIndex

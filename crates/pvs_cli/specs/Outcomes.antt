@@ -2,10 +2,11 @@
 use Rattle.std.specs.Prelude.{◌&&◌, ℕ, Bool, true, false, if◌then◌else◌, List, [], ◌∷◌, ◌++◌}
 use Rattle.std.specs.List.{list_any}
 use Rattle.pvs_base.specs.declared.code.Fault.{Fault}
-use Rattle.pvs_cli.specs.Names.{FormulaName, is_same, named_by}
-use Rattle.pvs_cli.specs.Entries.{Entry}
-use Rattle.pvs_cli.specs.Theories.{Part, Accepted, Rejected, Proving}
-use Rattle.pvs_cli.specs.Replaying.{Outcome, Proved, Open, Refused}
+use Rattle.pvs_theory.specs.Names.{FormulaName, is_same, named_by}
+use Rattle.pvs_theory.specs.Entries.{Entry}
+use Rattle.pvs_theory.specs.Theories.{Part, Accepted, Rejected, Proving}
+use Rattle.pvs_cli.specs.declared.outcome.Outcome.{Outcome}
+use Rattle.pvs_cli.specs.declared.outcome.Outcome.TheVariants.{Proved, Open, Refused}
 use Rattle.pvs_cli.specs.Verdicts.{Scripts, verdict}
 
 -- a part of a unit with its outcome
@@ -41,7 +42,7 @@ outcomes_of scripts parts = outcomes_after scripts parts [] parts
 -- whether a proof comes to its end
 abbrev pub is_proved : Outcome → Bool
 is_proved Proved = true
-is_proved (Open s) = false
+is_proved Open = false
 is_proved (Refused f) = false
 
 -- whether an outcome is that of a proof that proves this formula

@@ -5,10 +5,11 @@ use Rattle.pvs_syntax.specs.declared.unit.Item.{Item}
 use Rattle.pvs_syntax.specs.declared.unit.Unit as unit
 use Rattle.pvs_syntax.specs.declared.unit.FormulaWord.TheVariants as formula_word
 use Rattle.pvs_parser.specs.Text.{IsAnswer}
-use Rattle.pvs_cli.specs.Names.{FormulaName}
-use Rattle.pvs_cli.specs.Entries.{Entry, EntryKind, Formula}
-use Rattle.pvs_cli.specs.Theories.{parts_of}
-use Rattle.pvs_cli.specs.Replaying.{Outcome, Proved, Open, Refused}
+use Rattle.pvs_theory.specs.Names.{FormulaName}
+use Rattle.pvs_theory.specs.Entries.{Entry, EntryKind, Formula}
+use Rattle.pvs_theory.specs.Theories.{parts_of}
+use Rattle.pvs_cli.specs.declared.outcome.Outcome.{Outcome}
+use Rattle.pvs_cli.specs.declared.outcome.Outcome.TheVariants.{Proved, Open, Refused}
 use Rattle.pvs_cli.specs.Verdicts.{AreScripts, Scripts}
 use Rattle.pvs_cli.specs.Outcomes.{PartOutcome, TheoryAccepted, TheoryRefused, ProofOutcome, LemmaStatus, Unproved, Complete, outcomes_of, statuses_of}
 use Rattle.pvs_report.specs.declared.line.What.TheVariants as what
@@ -32,7 +33,7 @@ formula_lines status theory es = flat_map (λ e. entry_lines status theory e.nam
 -- the line of a proof: one where it is refused
 abbrev pub proof_line : FormulaName → Outcome → List Line
 proof_line n Proved = []
-proof_line n (Open s) = []
+proof_line n Open = []
 proof_line n (Refused f) = RefusedLine what.ProofOf (full_name n.theory n.formula) f ∷ []
 
 -- the lines of a part of a unit with its outcome, where lemmas have these statuses

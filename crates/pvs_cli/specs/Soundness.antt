@@ -5,8 +5,8 @@ use Rattle.pvs_syntax.specs.declared.unit.FormulaWord.TheVariants as formula_wor
 use Rattle.pvs_parser.specs.Text.{IsAnswer}
 use Rattle.pvs_terms.specs.Tree.{Tree}
 use Rattle.pvs_sem.specs.Truth.{Interpretation, truth}
-use Rattle.pvs_cli.specs.Entries.{Entry, Formula}
-use Rattle.pvs_cli.specs.Theories.{Accepted, parts_of}
+use Rattle.pvs_theory.specs.Entries.{Entry, Formula}
+use Rattle.pvs_theory.specs.Theories.{Accepted, parts_of}
 use Rattle.pvs_report.specs.Lines.{Line, FormulaLine, CompleteWord, bytes_of}
 use Rattle.pvs_cli.specs.Output.{text_of}
 use Rattle.pvs_cli.specs.Reporting.{IsReport}

@@ -9,11 +9,15 @@ use Rattle.pvs_parser.specs.Text.{SpanIn}
 use Rattle.pvs_script.specs.declared.tree.Script.{Script}
 use Rattle.pvs_script.specs.Faults.{IsScriptAnswer}
 use Rattle.pvs_terms.specs.Tree.{Tree}
-use Rattle.pvs_sem.specs.Sequents.{Sequent}
-use Rattle.pvs_cli.specs.Names.{FormulaName, is_listed, named_by}
-use Rattle.pvs_cli.specs.Entries.{Entry, EntryKind, Formula}
-use Rattle.pvs_cli.specs.Theories.{Part, Accepted, Rejected, Proving}
-use Rattle.pvs_cli.specs.Replaying.{Outcome, Refused, refused, replay}
+use Rattle.pvs_sequent.specs.Sequents.{Sequent}
+use Rattle.pvs_replay.specs.Logic.{logic_effect}
+use Rattle.pvs_replay.specs.Replaying as replaying
+use Rattle.pvs_replay.specs.Replaying.{replay}
+use Rattle.pvs_cli.specs.declared.outcome.Outcome.{Outcome}
+use Rattle.pvs_cli.specs.declared.outcome.Outcome.TheVariants.{Proved, Open, Refused}
+use Rattle.pvs_theory.specs.Names.{FormulaName, is_listed, named_by}
+use Rattle.pvs_theory.specs.Entries.{Entry, EntryKind, Formula}
+use Rattle.pvs_theory.specs.Theories.{Part, Accepted, Rejected, Proving}
 
 -- for each text and each proof in it a script, or a fault
 abbrev pub Scripts : Type 0
@@ -61,17 +65,27 @@ lemma_in (p ∷ ps) n = or_else (part_lemma p n) (lemma_in ps n)
 
 -- the sequent that is to be proved of a formula
 abbrev pub goal : Tree → Sequent
-goal t = record { antecedents = []; consequents = t ∷ [] }
+goal t = record { variables = []; antecedents = []; consequents = t ∷ [] }
+
+-- an outcome of replay without what a report does not say
+abbrev pub summary : replaying.Outcome → Outcome
+summary (replaying.Proved fs rs) = Proved
+summary (replaying.Open q) = Open
+summary (replaying.Refused f) = Refused f
 
 -- the outcome of a script on a sequent, or the first fault of the script
 abbrev pub script_outcome : Sequent → Result Script Fault → Outcome
-script_outcome s (Ok x) = replay x s
-script_outcome s (Err f) = Refused f
+script_outcome q (Ok x) = summary (replay logic_effect x q)
+script_outcome q (Err f) = Refused f
+
+-- no such formula, at the name of the theory
+abbrev pub no_such_formula : Proof → Outcome
+no_such_formula p = Refused (record { pos = p.theory.pos; code = code.NoSuchFormula })
 
 -- The outcome of a proof of a lemma, or of none, where an earlier proof names its formula or none does.
 abbrev pub proof_outcome : Proof → Bool → Option Tree → Result Script Fault → Outcome
-proof_outcome p named None script = refused p.theory.pos code.NoSuchFormula
-proof_outcome p true (Some t) script = refused p.theory.pos code.NoSuchFormula
+proof_outcome p named None script = no_such_formula p
+proof_outcome p true (Some t) script = no_such_formula p
 proof_outcome p false (Some t) script = script_outcome (goal t) script
 
 -- the outcome of a proof of a text, in a unit with these parts, where earlier proofs name these formulas

@@ -2,26 +2,16 @@
 //! open.
 #![tactic(auto)]
 
-mod distinct;
-mod entries;
 mod fact;
-mod fault;
-mod forms;
-mod index;
 mod input;
-mod names;
+mod outcome;
 mod outcomes;
 mod output;
-mod replay;
 mod report;
 mod run;
-mod sequent;
 mod status;
-mod step;
 #[cfg(test)]
 mod tests;
-mod theories;
-mod tree;
 mod verdict;
 
 use pvs_io::{MemFiles, StdSink, StdSource};

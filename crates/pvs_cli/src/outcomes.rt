@@ -2,27 +2,22 @@
 
 ghost use Rattle.std.specs.Prelude.{◌≡◌, ◌≤◌, ◌^◌, ◌||◌, ◌++◌, ◌∷◌, [], List, ℕ, length, is_some, IfOk, OnOk};
 ghost use Rattle.std.specs.List.{All, list_any};
-ghost use Rattle.pvs_syntax.specs.declared.unit.Item.TheVariants as item;
-ghost use Rattle.pvs_parser.specs.Text.{SpanIn};
 ghost use Rattle.pvs_script.specs.code.Reading.{script_of};
-ghost use Rattle.pvs_cli.specs.Index.{HasFormulas, formula_value};
-ghost use Rattle.pvs_cli.specs.LemmaIndex.{HasLemmas};
-ghost use Rattle.pvs_cli.specs.Names.{FormulaName, named_by};
-ghost use Rattle.pvs_cli.specs.Shown.{part_shown, parts_shown};
-ghost use Rattle.pvs_cli.specs.Replays.{part_outcome_shown, part_outcomes_shown};
-ghost use Rattle.pvs_cli.specs.Theories as spec;
+ghost use Rattle.pvs_theory.specs.code.Index.{HasFormulas, formula_value};
+ghost use Rattle.pvs_terms.specs.Stored.{Stored};
+ghost use Rattle.pvs_cli.specs.LemmaIndex.{HasLemmas, HasNodes};
+ghost use Rattle.pvs_theory.specs.Names.{FormulaName};
+ghost use Rattle.pvs_cli.specs.Shown.{part_outcome_shown, part_outcomes_shown};
+ghost use Rattle.pvs_theory.specs.code.Shown.{ArePartsOf, part_shown, parts_shown};
+ghost use Rattle.pvs_theory.specs.Theories as spec;
 ghost use Rattle.pvs_cli.specs.Verdicts.{IsPartIn};
 ghost use Rattle.pvs_cli.specs.Outcomes.{names_in, outcomes_of, part_outcome, proves};
 
-use crate::entries::Entry;
-use crate::index::{FormulaIndex, add_formula};
-use crate::names::spelling_of;
-use crate::replay::Outcome;
-use crate::theories::Part;
-use crate::tree::Tree;
+use crate::outcome::Outcome;
 use crate::verdict::{index_lemmas, verdict};
 use pvs_base::Fault;
-use pvs_syntax::Proof;
+use pvs_terms::{Id, Store};
+use pvs_theory::{Entry, FormulaIndex, Part, add_formula, spelling_of};
 use std::alloc::{AllocError, Global};
 
 /// A part of a unit with its outcome. Names are spans of the text.
@@ -35,43 +30,24 @@ pub enum PartOutcome<'e, 'a> {
     Rejected(&'a [u8], Fault),
 
     /// A proof, by the names of the theory and of the formula, with its outcome.
-    Proof(&'a [u8], &'a [u8], Outcome<'e>),
-}
-
-/// The outcome of a proof of a unit with these lemmas, where earlier proofs name these formulas.
-/// The formula of the proof is added to them.
-fn proof_outcome<'e, 'a>(
-    alloc: Global,
-    text: &'a [u8],
-    lemmas: &FormulaIndex<'a, &'e Tree>,
-    named: &mut FormulaIndex<'a, ()>,
-    proof: &Proof,
-) -> Result<PartOutcome<'e, 'a>, AllocError>
-    requires short { length text.now ≤ 2 ^ 20 }
-    requires span { SpanIn text.now (item.Proof proof.now) }
-    ensures outcome { (parts : List spec.Part) (earlier : List FormulaName) → HasLemmas lemmas.now parts → HasFormulas named.old earlier → IfOk result (λ o. part_outcome_shown text.now o ≡ part_outcome script_of parts earlier (spec.Proving text.now proof.now)) }
-    ensures names { (earlier : List FormulaName) → HasFormulas named.old earlier → OnOk result (HasFormulas named.new (earlier ++ named_by text.now proof.now ∷ [])) }
-{
-    let theory = spelling_of(text, &proof.theory);
-    let formula = spelling_of(text, &proof.formula);
-    let outcome = verdict(alloc, text, lemmas, named, proof)?;
-    add_formula(named, theory, formula)?;
-    Ok(PartOutcome::Proof(theory, formula, outcome))
+    Proof(&'a [u8], &'a [u8], Outcome),
 }
 
 /// The outcome of a part of a unit with these lemmas, where earlier proofs name these formulas. The
 /// formula of a proof is added to them.
 fn part_outcome<'e, 'a>(
     alloc: Global,
+    store: &Store,
     text: &'a [u8],
-    lemmas: &FormulaIndex<'a, &'e Tree>,
+    lemmas: &FormulaIndex<'a, Id>,
     named: &mut FormulaIndex<'a, ()>,
     part: &'e Part<'_>,
 ) -> Result<PartOutcome<'e, 'a>, AllocError>
     requires short { length text.now ≤ 2 ^ 20 }
-    requires span { IsPartIn (part_shown text.now part.now) }
-    ensures outcome { (parts : List spec.Part) (earlier : List FormulaName) → HasLemmas lemmas.now parts → HasFormulas named.old earlier → IfOk result (λ o. part_outcome_shown text.now o ≡ part_outcome script_of parts earlier (part_shown text.now part.now)) }
-    ensures names { (earlier : List FormulaName) → HasFormulas named.old earlier → OnOk result (HasFormulas named.new (earlier ++ names_in (part_shown text.now part.now))) }
+    requires span { IsPartIn (part_shown store.now text.now part.now) }
+    requires nodes { HasNodes store.now lemmas.now }
+    ensures outcome { (parts : List spec.Part) (earlier : List FormulaName) → HasLemmas store.now lemmas.now parts → HasFormulas named.old earlier → IfOk result (λ o. part_outcome_shown store.now text.now o ≡ part_outcome script_of parts earlier (part_shown store.now text.now part.now)) }
+    ensures names { (earlier : List FormulaName) → HasFormulas named.old earlier → OnOk result (HasFormulas named.new (earlier ++ names_in (part_shown store.now text.now part.now))) }
 {
     match part {
         Part::Accepted(theory, entries) => {
@@ -80,25 +56,33 @@ fn part_outcome<'e, 'a>(
         Part::Rejected(theory, fault) => {
             Ok(PartOutcome::Rejected(spelling_of(text, theory), *fault))
         }
-        Part::Proving(proof) => proof_outcome(alloc, text, lemmas, named, proof),
+        Part::Proving(proof) => {
+            let theory = spelling_of(text, &proof.theory);
+            let formula = spelling_of(text, &proof.formula);
+            let outcome = verdict(alloc, store, text, lemmas, named, proof)?;
+            add_formula(named, theory, formula)?;
+            Ok(PartOutcome::Proof(theory, formula, outcome))
+        }
     }
 }
 
 /// The outcomes of the parts of a unit, in order.
 pub fn outcomes<'e, 'a>(
     alloc: Global,
+    store: &Store,
     text: &'a [u8],
     parts: &'e [Part<'_>],
 ) -> Result<Vec<PartOutcome<'e, 'a>>, AllocError>
     requires short { length text.now ≤ 2 ^ 20 }
-    requires spans { All (λ p. IsPartIn (part_shown text.now p)) parts.now }
-    ensures { IfOk result (λ v. part_outcomes_shown text.now v.items ≡ outcomes_of script_of (parts_shown text.now parts.now)) }
+    requires spans { All (λ p. IsPartIn (part_shown store.now text.now p)) parts.now }
+    requires nodes { ArePartsOf store.now parts.now }
+    ensures { IfOk result (λ v. part_outcomes_shown store.now text.now v.items ≡ outcomes_of script_of (parts_shown store.now text.now parts.now)) }
 {
     let lemmas = index_lemmas(alloc, text, parts)?;
     let mut named = FormulaIndex::new(alloc);
     let mut outcomes = Vec::new(alloc);
     for part in parts {
-        outcomes.push(part_outcome(alloc, text, &lemmas, &mut named, part)?)?;
+        outcomes.push(part_outcome(alloc, store, text, &lemmas, &mut named, part)?)?;
     }
     Ok(outcomes)
 }
@@ -108,13 +92,13 @@ fn add_proved<'a>(
     proved: &mut FormulaIndex<'a, ()>,
     outcome: &PartOutcome<'_, 'a>,
 ) -> Result<(), AllocError>
-    ensures { (text : List ℕ) (n : FormulaName) → OnOk result (is_some (formula_value proved.new n) ≡ is_some (formula_value proved.old n) || proves n (part_outcome_shown text outcome.now)) }
+    ensures { (s : Stored) (text : List ℕ) (n : FormulaName) → OnOk result (is_some (formula_value proved.new n) ≡ is_some (formula_value proved.old n) || proves n (part_outcome_shown s text outcome.now)) }
 {
     match outcome {
         PartOutcome::Accepted(_, _) | PartOutcome::Rejected(_, _) => Ok(()),
         PartOutcome::Proof(theory, formula, outcome) => match outcome {
             Outcome::Proved => proved.add(theory, formula, ()),
-            Outcome::Open(_) | Outcome::Refused(_) => Ok(()),
+            Outcome::Open | Outcome::Refused(_) => Ok(()),
         },
     }
 }
@@ -124,7 +108,7 @@ pub fn proved_formulas<'a>(
     alloc: Global,
     outcomes: &[PartOutcome<'_, 'a>],
 ) -> Result<FormulaIndex<'a, ()>, AllocError>
-    ensures { (text : List ℕ) (n : FormulaName) → IfOk result (λ i. is_some (formula_value i n) ≡ list_any (proves n) (part_outcomes_shown text outcomes.now)) }
+    ensures { (s : Stored) (text : List ℕ) (n : FormulaName) → IfOk result (λ i. is_some (formula_value i n) ≡ list_any (proves n) (part_outcomes_shown s text outcomes.now)) }
 {
     let mut proved = FormulaIndex::new(alloc);
     for outcome in outcomes {

@@ -6,25 +6,23 @@ ghost use Rattle.std.specs.Option.{option_map};
 ghost use Rattle.pvs_parser.specs.Text.{SpanIn};
 ghost use Rattle.pvs_script.specs.code.Reading.{script_of};
 ghost use Rattle.pvs_cli.specs.LemmaIndex.{status_in};
-ghost use Rattle.pvs_syntax.specs.Words.{spelling};
-ghost use Rattle.pvs_cli.specs.Shown.{entries_shown, kind_shown};
-ghost use Rattle.pvs_cli.specs.Replays.{outcome_of, part_outcome_shown, part_outcomes_shown};
+ghost use Rattle.pvs_terms.specs.Stored.{Stored};
+ghost use Rattle.pvs_cli.specs.Shown.{part_outcome_shown, part_outcomes_shown};
+ghost use Rattle.pvs_theory.specs.code.Shown.{entries_shown, entry_shown};
 ghost use Rattle.pvs_report.specs.Lines.{bytes_of};
 ghost use Rattle.pvs_report.specs.Printed.{line_shown, lines_shown, word_shown};
 ghost use Rattle.pvs_cli.specs.Reporting.{IsReport, entry_lines, formula_lines, outcome_lines, part_lines, proof_line, status_word, unit_lines, unit_refusal, with_total};
 ghost use Rattle.pvs_cli.specs.Output.{IsReportOf, exit_status, is_unfinished};
 
-use crate::entries::{Entry, EntryKind};
-use crate::index::FormulaIndex;
-use crate::names::spelling_of;
+use crate::outcome::Outcome;
 use crate::outcomes::{PartOutcome, outcomes, proved_formulas};
-use crate::replay::Outcome;
 use crate::status::Status;
-use crate::theories::parts;
 use pvs_base::Fault;
 use pvs_parser::{ParseFault, parse_unit};
 use pvs_report::{Line, LineName, LineWord, What, count_lines, put_report};
 use pvs_syntax::{FormulaWord, Item};
+use pvs_terms::Store;
+use pvs_theory::{Entry, FormulaIndex, parts, spelling_of};
 use std::alloc::{AllocError, Global};
 
 /// What the line of a lemma says of it, where these formulas are proved.
@@ -46,24 +44,24 @@ fn entry_line<'a>(
     theory: &'a [u8],
     entry: &Entry,
 ) -> Option<Line<'a>>
-    ensures { option_to_list (option_map line_shown result) ≡ entry_lines (status_in proved.now) theory.now (spelling text.now entry.now.name) (kind_shown entry.now.kind) }
+    ensures { (s : Stored) → option_to_list (option_map line_shown result) ≡ entry_lines (status_in proved.now) theory.now (entry_shown s text.now entry.now).name (entry_shown s text.now entry.now).kind }
 {
-    let name = spelling_of(text, &entry.name);
-    match &entry.kind {
-        EntryKind::Constant => None,
-        EntryKind::Formula(word, _) => match word {
-            FormulaWord::Axiom => Some(Line::FormulaLine {
-                theory,
-                formula: name,
-                word: LineWord::AxiomWord,
-            }),
-            FormulaWord::Assumption => None,
-            FormulaWord::Lemma => Some(Line::FormulaLine {
-                theory,
-                formula: name,
-                word: lemma_word(proved, theory, name),
-            }),
-        },
+    let Entry::Formula(name, word, _) = entry else {
+        return None;
+    };
+    let name = spelling_of(text, name);
+    match word {
+        FormulaWord::Axiom => Some(Line::FormulaLine {
+            theory,
+            formula: name,
+            word: LineWord::AxiomWord,
+        }),
+        FormulaWord::Assumption => None,
+        FormulaWord::Lemma => Some(Line::FormulaLine {
+            theory,
+            formula: name,
+            word: lemma_word(proved, theory, name),
+        }),
     }
 }
 
@@ -85,7 +83,7 @@ fn push_formulas<'a>(
     theory: &'a [u8],
     entries: &[Entry],
 ) -> Result<(), AllocError>
-    ensures { OnOk result (lines_shown lines.new.items ≡ lines_shown lines.old.items ++ formula_lines (status_in proved.now) theory.now (entries_shown text.now entries.now)) }
+    ensures { (s : Stored) → OnOk result (lines_shown lines.new.items ≡ lines_shown lines.old.items ++ formula_lines (status_in proved.now) theory.now (entries_shown s text.now entries.now)) }
 {
     for entry in entries {
         push_some(lines, entry_line(text, proved, theory, entry))?;
@@ -100,7 +98,7 @@ fn push_part<'a>(
     proved: &FormulaIndex<'a, ()>,
     outcome: &PartOutcome<'_, 'a>,
 ) -> Result<(), AllocError>
-    ensures { OnOk result (lines_shown lines.new.items ≡ lines_shown lines.old.items ++ part_lines (status_in proved.now) (part_outcome_shown text.now outcome.now)) }
+    ensures { (s : Stored) → OnOk result (lines_shown lines.new.items ≡ lines_shown lines.old.items ++ part_lines (status_in proved.now) (part_outcome_shown s text.now outcome.now)) }
 {
     match outcome {
         PartOutcome::Accepted(theory, entries) => {
@@ -122,8 +120,8 @@ fn push_part<'a>(
 }
 
 /// The line of a proof with its outcome: one where it is refused.
-fn proof_line<'a>(theory: &'a [u8], formula: &'a [u8], outcome: &Outcome<'_>) -> Option<Line<'a>>
-    ensures { option_to_list (option_map line_shown result) ≡ proof_line (record { theory = theory.now; formula = formula.now }) (outcome_of outcome.now) }
+fn proof_line<'a>(theory: &'a [u8], formula: &'a [u8], outcome: &Outcome) -> Option<Line<'a>>
+    ensures { option_to_list (option_map line_shown result) ≡ proof_line (record { theory = theory.now; formula = formula.now }) outcome.now }
 {
     match outcome {
         Outcome::Refused(fault) => Some(Line::RefusedLine {
@@ -131,7 +129,7 @@ fn proof_line<'a>(theory: &'a [u8], formula: &'a [u8], outcome: &Outcome<'_>) ->
             name: LineName::Qualified(theory, formula),
             fault: *fault,
         }),
-        Outcome::Proved | Outcome::Open(_) => None,
+        Outcome::Proved | Outcome::Open => None,
     }
 }
 
@@ -141,7 +139,7 @@ fn outcome_lines<'a>(
     text: &'a [u8],
     outcomes: &[PartOutcome<'_, 'a>],
 ) -> Result<Vec<Line<'a>>, AllocError>
-    ensures { IfOk result (λ v. lines_shown v.items ≡ outcome_lines (part_outcomes_shown text.now outcomes.now)) }
+    ensures { (s : Stored) → IfOk result (λ v. lines_shown v.items ≡ outcome_lines (part_outcomes_shown s text.now outcomes.now)) }
 {
     let proved = proved_formulas(alloc, outcomes)?;
     let mut lines = Vec::new(alloc);
@@ -161,8 +159,9 @@ fn unit_lines<'a>(
     requires spans { All (SpanIn text.now) items.now }
     ensures { IfOk result (λ v. lines_shown v.items ≡ unit_lines script_of text.now items.now) }
 {
-    let parts = parts(alloc, text, items)?;
-    let outcomes = outcomes(alloc, text, &parts)?;
+    let mut store = Store::new(alloc)?;
+    let parts = parts(alloc, &mut store, text, items)?;
+    let outcomes = outcomes(alloc, &store, text, &parts)?;
     outcome_lines(alloc, text, &outcomes)
 }
 

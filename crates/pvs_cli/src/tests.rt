@@ -4,6 +4,7 @@ mod scripts;
 mod sizes;
 mod streams;
 mod theories;
+mod trees;
 mod units;
 
 ghost use Rattle.std.specs.Prelude.{IfOk};

@@ -1,6 +1,6 @@
 use Rattle.std.proofs.Common.{subst, sym, arith}
 use Rattle.pvs_cli.proofs.OutputLaws.{AddsUpTo, given_more}
-use Rattle.pvs_cli.proofs.TreeLists.{rest_whole}
+use Rattle.pvs_cli.proofs.Loops.{rest_whole}
 use Rattle.pvs_cli.proofs.output.give_all.Goals as goal
 
 pub loop-rest-preserved : goal.loop-rest-preserved

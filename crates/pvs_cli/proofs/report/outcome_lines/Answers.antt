@@ -2,30 +2,30 @@ use Rattle.std.proofs.Common.{◌<◌, ◌≤◌, ◌∙◌, ◌++◌, is_some, 
 use Rattle.std.proofs.lemmas.List.{take_all}
 use Rattle.pvs_cli.specs.Index.{formula_value}
 use Rattle.pvs_cli.specs.LemmaIndex.{status_in}
-use Rattle.pvs_cli.specs.Replays.{part_outcome_shown, part_outcomes_shown}
+use Rattle.pvs_cli.specs.Shown.{part_outcome_shown, part_outcomes_shown}
 use Rattle.pvs_cli.specs.Reporting.{lines_of, part_lines}
 use Rattle.pvs_cli.proofs.OutcomeLaws.{same_statuses}
 use Rattle.pvs_cli.proofs.Loops.{flat_push, shown_more}
 use Rattle.pvs_cli.proofs.report.outcome_lines.Goals as goal
 
 pub loop-outcome-preserved : goal.loop-outcome-preserved
-loop-outcome-preserved c =
+loop-outcome-preserved c = λ s.
     let text = c.args.text.now in
     let os = c.args.outcomes.now in
     let i = c.loop-outcome.outcome-index in
     let o = c.outcome-item.result in
     let status = status_in c.in_ok-proved.proved in
     let inside : c.loop-outcome.outcome-index < length c.args.outcomes.now = search rules in
-    c.in_ok-push_part.ensures
-    ∙ (ap (λ ls. ls ++ part_lines status (part_outcome_shown text o)) c.loop-outcome.invariant
-    ∙ sym (ap (λ xs. lines_of xs status) (shown_more (part_outcome_shown text) os i o inside c.outcome-item.is) ∙ flat_push (part_lines status) (map (part_outcome_shown text) (take i os)) (part_outcome_shown text o)))
+    c.in_ok-push_part.ensures s
+    ∙ (ap (λ ls. ls ++ part_lines status (part_outcome_shown s text o)) (c.loop-outcome.invariant s)
+    ∙ sym (ap (λ xs. lines_of xs status) (shown_more (part_outcome_shown s text) os i o inside c.outcome-item.is) ∙ flat_push (part_lines status) (map (part_outcome_shown s text) (take i os)) (part_outcome_shown s text o)))
 
 pub returns : goal.returns
-returns c =
+returns c = λ s.
     let text = c.args.text.now in
     let os = c.args.outcomes.now in
     let proved = c.in_ok-proved.proved in
     let past : length c.args.outcomes.now ≤ c.loop-outcome.outcome-index = search rules in
-    c.loop-outcome.invariant
-    ∙ (ap (λ xs. lines_of (part_outcomes_shown text xs) (status_in proved)) (take_all c.loop-outcome.outcome-index os past)
-    ∙ ap (lines_of (part_outcomes_shown text os)) (same_statuses (λ n. is_some (formula_value proved n)) (part_outcomes_shown text os) (c.in_ok-proved.ensures text)))
+    c.loop-outcome.invariant s
+    ∙ (ap (λ xs. lines_of (part_outcomes_shown s text xs) (status_in proved)) (take_all c.loop-outcome.outcome-index os past)
+    ∙ ap (lines_of (part_outcomes_shown s text os)) (same_statuses (λ n. is_some (formula_value proved n)) (part_outcomes_shown s text os) (c.in_ok-proved.ensures s text)))

@@ -1,0 +1,5 @@
+pub mod Names
+pub mod Forms
+pub mod Entries
+pub mod Theories
+pub mod code
