@@ -1,10 +1,12 @@
 use Rattle.std.proofs.Common.{◌≡◌, ◌<◌, ◌∙◌, ◌++◌, ◌∷◌, [], length, take, map, rules, ap, sym}
 use Rattle.std.proofs.lemmas.List.{map-append}
 use Rattle.pvs_script.specs.code.Reading.{script_of}
-use Rattle.pvs_cli.specs.Names.{is_listed}
-use Rattle.pvs_cli.specs.Shown.{part_outcome_shown, part_shown, parts_shown}
+use Rattle.pvs_theory.specs.Names.{is_listed}
+use Rattle.pvs_cli.specs.Shown.{part_outcome_shown}
+use Rattle.pvs_theory.specs.code.Shown.{part_shown, parts_shown}
 use Rattle.pvs_cli.specs.Outcomes.{names_in, outcomes_after, part_outcome}
-use Rattle.pvs_cli.proofs.Loops.{flat_push, shown_more}
+use Rattle.pvs_cli.proofs.Loops.{shown_more}
+use Rattle.pvs_theory.proofs.Loops.{flat_push}
 use Rattle.pvs_cli.proofs.OutcomeLaws.{names_of, outcomes_push}
 use Rattle.pvs_cli.proofs.outcomes.outcomes.Goals as goal
 

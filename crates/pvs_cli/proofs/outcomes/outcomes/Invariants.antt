@@ -1,7 +1,8 @@
 use Rattle.std.proofs.Common.{◌≡◌, [], take}
 use Rattle.pvs_script.specs.code.Reading.{script_of}
-use Rattle.pvs_cli.specs.Index.{HasFormulas}
-use Rattle.pvs_cli.specs.Shown.{part_outcomes_shown, parts_shown}
+use Rattle.pvs_theory.specs.code.Index.{HasFormulas}
+use Rattle.pvs_cli.specs.Shown.{part_outcomes_shown}
+use Rattle.pvs_theory.specs.code.Shown.{parts_shown}
 use Rattle.pvs_cli.specs.Outcomes.{outcomes_after}
 use Rattle.pvs_cli.proofs.OutcomeLaws.{names_of}
 use Rattle.pvs_cli.proofs.outcomes.outcomes.Given as goal

@@ -1,11 +1,12 @@
 use Rattle.std.proofs.Common.{◌<◌, ◌≤◌, ◌∙◌, ◌++◌, is_some, length, take, map, rules, ap, sym}
 use Rattle.std.proofs.lemmas.List.{take_all}
-use Rattle.pvs_cli.specs.Index.{formula_value}
+use Rattle.pvs_theory.specs.code.Index.{formula_value}
 use Rattle.pvs_cli.specs.LemmaIndex.{status_in}
 use Rattle.pvs_cli.specs.Shown.{part_outcome_shown, part_outcomes_shown}
 use Rattle.pvs_cli.specs.Reporting.{lines_of, part_lines}
 use Rattle.pvs_cli.proofs.OutcomeLaws.{same_statuses}
-use Rattle.pvs_cli.proofs.Loops.{flat_push, shown_more}
+use Rattle.pvs_cli.proofs.Loops.{shown_more}
+use Rattle.pvs_theory.proofs.Loops.{flat_push}
 use Rattle.pvs_cli.proofs.report.outcome_lines.Goals as goal
 
 pub loop-outcome-preserved : goal.loop-outcome-preserved
