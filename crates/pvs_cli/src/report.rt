@@ -152,6 +152,22 @@ fn outcome_lines<'a>(
     Ok(lines)
 }
 
+/// The lines of a unit with these items, whose formulas are added to a store.
+fn stored_lines<'a>(
+    alloc: Global,
+    store: &mut Store,
+    text: &'a [u8],
+    items: &[Item],
+) -> Result<Vec<Line<'a>>, AllocError>
+    requires short { length text.now ≤ 2 ^ 20 }
+    requires spans { All (SpanIn text.now) items.now }
+    ensures { IfOk result (λ v. lines_shown v.items ≡ outcome_lines (outcomes_of script_of (parts_of text.now items.now))) }
+{
+    let parts = parts(alloc, store, text, items)?;
+    let outcomes = outcomes(alloc, store, text, &parts)?;
+    outcome_lines(alloc, text, &outcomes)
+}
+
 /// The lines of a unit with these items.
 fn unit_lines<'a>(
     alloc: Global,
@@ -163,9 +179,7 @@ fn unit_lines<'a>(
     ensures { IfOk result (λ v. lines_shown v.items ≡ outcome_lines (outcomes_of script_of (parts_of text.now items.now))) }
 {
     let mut store = Store::new(alloc)?;
-    let parts = parts(alloc, &mut store, text, items)?;
-    let outcomes = outcomes(alloc, &store, text, &parts)?;
-    outcome_lines(alloc, text, &outcomes)
+    stored_lines(alloc, &mut store, text, items)
 }
 
 /// The line of a unit that is refused.

@@ -10,7 +10,7 @@ use Rattle.pvs_cli.specs.code.Shown.{part_outcomes_shown, plain}
 use Rattle.pvs_cli.proofs.OutcomeLaws.{plain_lines}
 use Rattle.pvs_theory.specs.code.Shown.{part_shown, parts_shown}
 use Rattle.pvs_cli.proofs.PartLaws.{all_from_map, parts_in}
-use Rattle.pvs_cli.proofs.report.unit_lines.Goals as goal
+use Rattle.pvs_cli.proofs.report.stored_lines.Goals as goal
 
 pub outcomes-requires-clause-spans : goal.outcomes-requires-clause-spans
 outcomes-requires-clause-spans c =
