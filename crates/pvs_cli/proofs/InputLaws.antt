@@ -8,7 +8,8 @@ use Rattle.pvs_io.specs.Outside.{Takes}
 use Rattle.pvs_io.proofs.CallerLemmas.{takes_joined}
 use Rattle.pvs_cli.specs.declared.input.Input.TheVariants as input
 use Rattle.pvs_cli.specs.declared.input.Chunk.TheVariants as chunk
-use Rattle.pvs_cli.specs.Input.{IsAtEnd, ReadsChunk, ReadsText, TakesAtMost}
+use Rattle.pvs_cli.specs.code.Reading.{IsAtEnd, ReadsChunk, ReadsText}
+use Rattle.pvs_cli.specs.Input.{TakesAtMost}
 use Rattle.pvs_cli.specs.Output.{TakesUnit, text_of}
 
 -- these bytes were taken

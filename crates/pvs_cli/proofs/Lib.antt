@@ -11,6 +11,7 @@ pub mod SoundNames
 pub mod SoundTheories
 pub mod SoundReports
 pub mod SoundOutput
+pub mod OpenExample
 pub mod SoundOpen
 pub mod OpenExampleReads
 pub mod PlaceBounds

@@ -10,7 +10,7 @@ use Rattle.pvs_parser.specs.Language.{Derives, Plain, language_limit, outermost,
 use Rattle.pvs_parser.specs.Units.{DerivesIds, DerivesFormalPart, DerivesAssuming, DerivesDecl, DerivesSemicolon, DerivesMany, DerivesTheory, DerivesItems}
 use Rattle.pvs_parser.specs.Text.{Terminals, terminals_of_text, IsAnswer}
 use Rattle.pvs_syntax.specs.declared.expression.TypeExpr.TheVariants as type_expr
-use Rattle.pvs_cli.specs.OpenExample.{bytes, l_decl, p_decl, plain, says_p, small, whole, word}
+use Rattle.pvs_cli.proofs.OpenExample.{bytes, l_decl, p_decl, plain, says_p, small, whole, word}
 
 -- a token of the text, from one offset up to another
 abbrev token : TerminalKind → ℕ → ℕ → ℕ → Terminal

@@ -2,7 +2,7 @@
 use Rattle.std.proofs.Common.{◌≡◌, ◌∙◌, ◌+◌, ◌^◌, ◌≤◌, ◌<◌, ◌⊎◌, inl, inr, ℕ, Bool, true, false, List, [], ◌∷◌, ◌++◌, length, take, drop, if◌then◌else◌, Option, Some, None, Result, refl, sym, ap, ap₂, subst, arith, append_assoc, append-nil, take-add, drop-drop, length-append}
 use Rattle.std.specs.Prelude.{⊤}
 use Rattle.std.specs.List.{list_any}
-use Rattle.std.proofs.lemmas.List.{length-drop, length-take, take_all}
+use Rattle.std.proofs.lemmas.List.{take_all}
 use Rattle.pvs_base.specs.declared.code.Fault.{Fault}
 use Rattle.pvs_syntax.specs.declared.unit.Unit as unit
 use Rattle.pvs_parser.specs.Text.{IsAnswer}
@@ -15,11 +15,12 @@ use Rattle.pvs_cli.specs.declared.input.Input.TheVariants as input
 use Rattle.pvs_cli.specs.declared.status.Status.{Status}
 use Rattle.pvs_cli.specs.declared.status.Status.TheVariants as status
 use Rattle.pvs_report.specs.Lines.{Line, TotalLine, bytes_of, line_bytes, line_text, totals_of}
-use Rattle.pvs_cli.specs.Reporting.{IsReport, OneAnswer, answer_lines, of_text, with_total}
-use Rattle.pvs_cli.specs.Input.{ReadsText}
-use Rattle.pvs_cli.specs.Output.{Adds, HasOneOutput, IsCheck, IsOutput, IsReportOf, Writes, WritesFor, WritesOutput, WritesReport, WritesReportOf, exit_status, has_whole_output, is_unfinished, report, text_of, usage, usage_line}
+use Rattle.pvs_cli.specs.Reporting.{IsReport, answer_lines, of_text, with_total}
+use Rattle.pvs_cli.specs.code.Reading.{ReadsText}
+use Rattle.pvs_cli.specs.Output.{Adds, HasOneOutput, IsCheck, IsOutput, Writes, WritesOutput, exit_status, has_whole_output, is_unfinished, report, text_of, usage, usage_line}
+use Rattle.pvs_cli.specs.code.Writing.{IsReportOf, WritesReport, WritesReportOf}
 use Rattle.pvs_report.proofs.LineLaws.{bytes_push}
-use Rattle.pvs_cli.proofs.ReportOf.{one_report}
+use Rattle.pvs_cli.proofs.ReportOf.{OneAnswer, one_report}
 use Rattle.pvs_script.specs.code.Reading.{script_of}
 use Rattle.pvs_script.proofs.Verdicts.{script_answer}
 

@@ -9,7 +9,7 @@ use Rattle.pvs_parser.specs.Text.{SpanIn}
 use Rattle.pvs_syntax.specs.Words.{spelling}
 use Rattle.pvs_theory.specs.Entries.{Entry}
 use Rattle.pvs_theory.specs.Theories.{part_of, parts_after, theory_entries, theory_part}
-use Rattle.pvs_cli.specs.Verdicts.{IsPartIn}
+use Rattle.pvs_cli.specs.code.Shown.{IsPartIn}
 
 -- what holds of each image
 pub all_from_map : {X Y : Type 0} (P : Y → Type 0) (f : X → Y) (xs : List X) → All P (map f xs) → All (λ x. P (f x)) xs

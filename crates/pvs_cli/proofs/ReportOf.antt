@@ -11,7 +11,13 @@ use Rattle.pvs_script.specs.code.Reading.{script_of}
 use Rattle.pvs_script.proofs.Verdicts.{one_answer, script_answer}
 use Rattle.pvs_report.specs.Lines.{Line}
 use Rattle.pvs_cli.specs.Verdicts.{AreScripts, Scripts}
-use Rattle.pvs_cli.specs.Reporting.{IsReport, OneAnswer, answer_lines, unit_lines, with_total, of_text}
+use Rattle.pvs_theory.specs.Theories.{parts_of}
+use Rattle.pvs_cli.specs.Outcomes.{outcomes_of}
+use Rattle.pvs_cli.specs.Reporting.{IsReport, answer_lines, outcome_lines, with_total, of_text}
+
+-- two answers of one text are the same: its unit, or its first fault
+abbrev pub OneAnswer : Type 0
+OneAnswer = (text : List ℕ) (a b : Result unit.Unit Fault) → IsAnswer text a → IsAnswer text b → a ≡ b
 
 report_of : (text : List ℕ) (a : Result unit.Unit Fault) → IsAnswer text a → (ls : List Line) → ls ≡ answer_lines script_of text a → IsReport text (with_total ls)
 report_of text a h ls e = subst (λ (z : List Line). IsReport text (with_total z)) (sym e) (of_text script_of script_answer a h)
@@ -22,8 +28,8 @@ reported shown text a h (Ok v) e = report_of text a h (shown v) e
 reported shown text a h (Err x) e = e
 
 -- the same for a unit whose items are these
-pub reported_unit : {A E : Type 0} (shown : A → List Line) (text : List ℕ) (u : unit.Unit) → IsAnswer text (Ok u) → (items : List Item) → items ≡ u.items → (r : Result A E) → IfOk r (λ v. shown v ≡ unit_lines script_of text items) → IfOk r (λ v. IsReport text (with_total (shown v)))
-reported_unit shown text u h items same r made = reported shown text (Ok u) h r (subst (λ (z : List Item). IfOk r (λ v. shown v ≡ unit_lines script_of text z)) same made)
+pub reported_unit : {A E : Type 0} (shown : A → List Line) (text : List ℕ) (u : unit.Unit) → IsAnswer text (Ok u) → (items : List Item) → items ≡ u.items → (r : Result A E) → IfOk r (λ v. shown v ≡ outcome_lines (outcomes_of script_of (parts_of text items))) → IfOk r (λ v. IsReport text (with_total (shown v)))
+reported_unit shown text u h items same r made = reported shown text (Ok u) h r (subst (λ (z : List Item). IfOk r (λ v. shown v ≡ outcome_lines (outcomes_of script_of (parts_of text z)))) same made)
 
 -- a text where a fault is answered has that first fault
 pub faulty : (text : List ℕ) (q : ParseFault) (f : Fault) → q ≡ parse_fault.At f → Answers text (Err q) → IsAnswer text (Err f)

@@ -19,7 +19,7 @@ use Rattle.pvs_syntax.specs.Words.{spelling}
 use Rattle.pvs_theory.specs.Entries.{Entry, EntryKind, Constant, Formula, Placed, core, named, entries_after, entries_of, resolve}
 use Rattle.pvs_base.specs.Answers.{◌>>=◌}
 use Rattle.pvs_theory.specs.Theories.{declared_by, first_repeated, formula_name, formula_names, has_name, repeated}
-use Rattle.pvs_cli.specs.Verdicts.{lemma_formula, lemma_of, or_else, lemma_named}
+use Rattle.pvs_cli.specs.Verdicts.{lemma_of, lemma_named}
 use Rattle.pvs_theory.proofs.IndexLaws.{any_push}
 use Rattle.pvs_theory.proofs.Loops.{flat_push}
 
@@ -118,22 +118,23 @@ name_listed (e ∷ es) (suc x) name w t h = go e.kind (name_listed es x name w t
 
 -- an entry before a formula of another name is not found by that name
 pub not_found_before : (n name : List ℕ) (k : EntryKind) (ns : List (List ℕ)) (o : Option Tree) → list_any (bytes_eq name) ns ≡ true → are_distinct (kind_names n k ++ ns) ≡ true
-    → (or_else (lemma_of name n k) o ≡ o) × (are_distinct ns ≡ true)
-not_found_before n name Constant ns o h d = (go (bytes_eq n name), d)
-  where
-    go : (b : Bool) → or_else (if b then None else None) o ≡ o
-    go true = refl
-    go false = refl
-not_found_before n name (Formula w t) ns o h d = (go (bytes_eq n name) refl, both.1)
+    → (option_or (lemma_of name n k) o ≡ o) × (are_distinct ns ≡ true)
+not_found_before n name Constant ns o h d = (refl, d)
+not_found_before n name (Formula w t) ns o h d = (of_word w, both.1)
   where
     both : (not (list_any (bytes_eq n) ns) ≡ true) × (are_distinct ns ≡ true)
     both = and_parts (not (list_any (bytes_eq n) ns)) (are_distinct ns) d
 
-    go : (b : Bool) → bytes_eq n name ≡ b → or_else (if b then lemma_formula (Formula w t) else None) o ≡ o
+    go : (b : Bool) → bytes_eq n name ≡ b → option_or (if b then Some t else None) o ≡ o
     go true e =
         let q : list_any (bytes_eq n) ns ≡ true = subst (λ (u : List ℕ). list_any (bytes_eq u) ns ≡ true) (sym ((bytes_eq-Decides n name).0 e)) h in
         let r : not true ≡ true = sym (ap not q) ∙ both.0 in cc
     go false e = refl
+
+    of_word : (u : FormulaWord) → option_or (lemma_of name n (Formula u t)) o ≡ o
+    of_word formula_word.Axiom = refl
+    of_word formula_word.Assumption = refl
+    of_word formula_word.Lemma = go (bytes_eq n name) refl
 
 -- the lemma at a place is the one that its name finds
 pub found_by_name : (es : List Entry) (x : ℕ) (name : List ℕ) (body : Tree) → are_distinct (entry_names es) ≡ true
@@ -141,8 +142,8 @@ pub found_by_name : (es : List Entry) (x : ℕ) (name : List ℕ) (body : Tree) 
 found_by_name [] x name body d h = cc
 found_by_name (e ∷ es) zero name body d h =
     let q : e ≡ record { name = name; kind = Formula formula_word.Lemma body } = cc in
-    subst (λ (f : Entry). or_else (lemma_of name f.name f.kind) (lemma_named es name) ≡ Some body) (sym q)
-    (ap (λ (b : Bool). or_else (if b then Some body else None) (lemma_named es name)) ((bytes_eq-Decides name name).1 refl))
+    subst (λ (f : Entry). option_or (lemma_of name f.name f.kind) (lemma_named es name) ≡ Some body) (sym q)
+    (ap (λ (b : Bool). option_or (if b then Some body else None) (lemma_named es name)) ((bytes_eq-Decides name name).1 refl))
 found_by_name (e ∷ es) (suc x) name body d h =
     let n = not_found_before e.name name e.kind (entry_names es) (lemma_named es name) (name_listed es x name formula_word.Lemma body h) d in
     n.0 ∙ found_by_name es x name body n.1 h

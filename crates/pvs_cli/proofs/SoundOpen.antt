@@ -17,41 +17,41 @@ use Rattle.pvs_theory.specs.Forms as forms
 use Rattle.pvs_theory.specs.Entries.{Entry, Constant, Constants, Formula, Placed, core, entries_after, entries_of, named, named_constant, out_of_profile, resolve}
 use Rattle.pvs_base.specs.Answers.{◌>>=◌}
 use Rattle.pvs_theory.specs.Entries as entries_spec
-use Rattle.pvs_theory.specs.Theories.{Accepted, first_repeated, unless_repeated, theory_entries, theory_part}
+use Rattle.pvs_theory.specs.Theories.{Accepted, first_repeated, unless_repeated, parts_of, theory_entries, theory_part}
 use Rattle.pvs_report.specs.Lines.{Line, FormulaLine, TotalLine, OpenWord, totals_of}
-use Rattle.pvs_cli.specs.Reporting.{of_text, outcome_lines, unit_lines, with_total}
+use Rattle.pvs_cli.specs.Reporting.{of_text, outcome_lines, with_total}
 use Rattle.pvs_cli.specs.Verdicts.{Scripts}
 use Rattle.pvs_cli.specs.Outcomes.{outcomes_of}
 use Rattle.pvs_script.specs.code.Reading.{script_of}
 use Rattle.pvs_script.proofs.Verdicts.{script_answer}
 use Rattle.pvs_cli.specs.Soundness.{Fits}
 use Rattle.pvs_cli.specs.SoundFacts.{ReportedCanBeFalse}
-use Rattle.pvs_cli.specs.OpenExample.{bytes, plain, says_p, small, whole, word}
+use Rattle.pvs_cli.proofs.OpenExample.{bytes, plain, says_p, small, whole, word}
 
 -- ---- A plain name.
 
 module _ (w : Word) where
   plain_name : forms.plain_name (plain w) ≡ Some w
-  plain_name = fold-roll-NameExpr ⊤ Bool (Option Word) ⊤ ⊤ ⊤ (Option Word) forms.actual_step forms.expr_step forms.type_step forms.binding_step forms.inst_step forms.part_step forms.name_step (record { qualifier = None; word = w })
+  plain_name = fold-roll-NameExpr ⊤ Bool (Option Word) ⊤ ⊤ ⊤ (Option Word) forms.no_step forms.expr_step forms.type_step forms.no_step forms.no_step forms.no_step forms.name_step (record { qualifier = None; word = w })
 
   plain_type : forms.plain_type (type_expr.NameType (plain w)) ≡ Some w
   plain_type =
       ap forms.plain_type (sym (type_expr.rolls-NameType (plain w)))
-      ∙ fold-roll-TypeExpr ⊤ Bool (Option Word) ⊤ ⊤ ⊤ (Option Word) forms.actual_step forms.expr_step forms.type_step forms.binding_step forms.inst_step forms.part_step forms.name_step (TypeExpr-F.NameType (plain w))
+      ∙ fold-roll-TypeExpr ⊤ Bool (Option Word) ⊤ ⊤ ⊤ (Option Word) forms.no_step forms.expr_step forms.type_step forms.no_step forms.no_step forms.no_step forms.name_step (TypeExpr-F.NameType (plain w))
       ∙ plain_name
 
   built_name : forms.is_built (expr.NameTerm (plain w)) ≡ true
   built_name =
       ap forms.is_built (sym (expr.rolls-NameTerm (plain w)))
-      ∙ fold-roll-Expr ⊤ Bool (Option Word) ⊤ ⊤ ⊤ (Option Word) forms.actual_step forms.expr_step forms.type_step forms.binding_step forms.inst_step forms.part_step forms.name_step (Expr-F.NameTerm (plain w))
+      ∙ fold-roll-Expr ⊤ Bool (Option Word) ⊤ ⊤ ⊤ (Option Word) forms.no_step forms.expr_step forms.type_step forms.no_step forms.no_step forms.no_step forms.name_step (Expr-F.NameTerm (plain w))
       ∙ ap is_some plain_name
 
   -- the core tree of a plain name
   pub core_name : (text : List ℕ) (at : Pos) (constants : Constants) → core text at constants (expr.NameTerm (plain w)) ≡ named_constant text at constants (Some w)
   core_name text at constants =
       ap (core text at constants) (sym (expr.rolls-NameTerm (plain w)))
-      ∙ fold-roll-Expr ⊤ (Result Placed Fault) ⊤ ⊤ ⊤ ⊤ (Option Word) entries_spec.actual_step (entries_spec.core_step text at constants) entries_spec.type_step entries_spec.binding_step entries_spec.inst_step entries_spec.part_step entries_spec.name_step (Expr-F.NameTerm (plain w))
-      ∙ ap (named_constant text at constants) (fold-roll-NameExpr ⊤ (Result Placed Fault) ⊤ ⊤ ⊤ ⊤ (Option Word) entries_spec.actual_step (entries_spec.core_step text at constants) entries_spec.type_step entries_spec.binding_step entries_spec.inst_step entries_spec.part_step entries_spec.name_step (record { qualifier = None; word = w }))
+      ∙ fold-roll-Expr ⊤ (Result Placed Fault) ⊤ ⊤ ⊤ ⊤ (Option Word) forms.no_step (entries_spec.core_step text at constants) forms.no_step forms.no_step forms.no_step forms.no_step forms.name_step (Expr-F.NameTerm (plain w))
+      ∙ ap (named_constant text at constants) (fold-roll-NameExpr ⊤ (Result Placed Fault) ⊤ ⊤ ⊤ ⊤ (Option Word) forms.no_step (entries_spec.core_step text at constants) forms.no_step forms.no_step forms.no_step forms.no_step forms.name_step (record { qualifier = None; word = w }))
 
 -- ---- The theory is accepted.
 
@@ -91,7 +91,7 @@ module _ (scripts : Scripts) where
   printed : (r : Result (List Entry) Fault) → r ≡ Ok entries → Contains (outcome_lines (outcomes_of scripts (theory_part (codes "p") r ∷ []))) line
   printed r e = subst (λ (q : Result (List Entry) Fault). Contains (outcome_lines (outcomes_of scripts (theory_part (codes "p") q ∷ []))) line) (sym e) (1, omega arith, refl)
 
-  open_line : Contains (unit_lines scripts bytes whole.items) line
+  open_line : Contains (outcome_lines (outcomes_of scripts (parts_of bytes whole.items))) line
   open_line = printed (theory_entries bytes [] small) accepted
 
 among : (r : Result (List Entry) Fault) → r ≡ Ok entries → Contains (theory_part (codes "p") r ∷ []) (Accepted (codes "p") entries)
@@ -100,7 +100,7 @@ among r e = subst (λ (q : Result (List Entry) Fault). Contains (theory_part (co
 -- a lemma that is printed open can be FALSE, where the text reads as the unit
 pub reported_can_be_false : IsAnswer bytes (Ok whole) → ReportedCanBeFalse
 reported_can_be_false reads =
-    let lines = unit_lines script_of bytes whole.items in (
+    let lines = outcome_lines (outcomes_of script_of (parts_of bytes whole.items)) in (
       bytes,
       with_total lines,
       whole,

@@ -1,9 +1,9 @@
 -- What was written as the report of an input prints as complete only what is true.
-use Rattle.std.proofs.Common.{◌≡◌, ◌∙◌, ◌++◌, ◌+◌, ◌^◌, ◌≤◌, ℕ, true, List, Option, Some, None, ap, subst, arith}
-use Rattle.std.proofs.lemmas.List.{length-take}
+use Rattle.std.proofs.Common.{◌≡◌, ◌∙◌, ◌++◌, ℕ, true, List, Option, Some, None, ap, subst}
 use Rattle.pvs_cli.specs.declared.status.Status.{Status}
-use Rattle.pvs_cli.specs.Output.{Adds, IsReportOf, WritesOutput, WritesReport, has_whole_output, text_of}
-use Rattle.pvs_cli.specs.Reporting.{OneAnswer}
+use Rattle.pvs_cli.specs.Output.{Adds, WritesOutput, has_whole_output, text_of}
+use Rattle.pvs_cli.specs.code.Writing.{IsReportOf, WritesReport}
+use Rattle.pvs_cli.proofs.ReportOf.{OneAnswer}
 use Rattle.pvs_cli.specs.Soundness.{AddsTruth, WritesTruth}
 use Rattle.pvs_cli.proofs.SoundReports.{report_sound}
 
@@ -18,7 +18,7 @@ truth_output one text before after result whole w = truth_added one text before 
 
 pub truth_written : OneAnswer → (old new before after : Option (List ℕ)) (result : Status) → has_whole_output result ≡ true → WritesReport old new before after result → WritesTruth old new before after
 truth_written one None None before after result whole w =
-    (text_of w.0, omega (arith, length-take (2 ^ 20 + 1) w.0), truth_output one (text_of w.0) before after result whole w.2)
+    (w.0, w.1, truth_output one (text_of w.0) before after result whole w.2)
 truth_written one None (Some l) before after result whole w = w
 truth_written one (Some a) None before after result whole w = w
 truth_written one (Some a) (Some l) before after result whole w = truth_output one (text_of a) before after result whole w

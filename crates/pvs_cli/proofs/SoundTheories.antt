@@ -14,7 +14,8 @@ use Rattle.pvs_syntax.specs.Words.{spelling}
 use Rattle.pvs_theory.specs.Forms.{is_built_theory}
 use Rattle.pvs_theory.specs.Entries.{Entry, Formula, entries_of, out_of_profile}
 use Rattle.pvs_theory.specs.Theories.{Part, Accepted, duplicate, first_repeated, has_name, unless_repeated, part_of, parts_after, parts_of, theory_entries, theory_names, theory_part, accepted_entries}
-use Rattle.pvs_cli.specs.Verdicts.{lemma_in, lemma_named, or_else, part_lemma}
+use Rattle.std.specs.Option.{option_or}
+use Rattle.pvs_cli.specs.Verdicts.{lemma_in, lemma_named, part_lemma}
 use Rattle.pvs_cli.proofs.LemmaLaws.{lemma_in-append}
 use Rattle.pvs_cli.proofs.Members.{Has, has_contained}
 use Rattle.pvs_theory.proofs.PartLaws.{parts_split}
@@ -55,13 +56,13 @@ pub none_before : (text : List ℕ) (n : FormulaName) (earlier is : List Item) �
 none_before text n earlier [] h = refl
 none_before text n earlier (item.Theory t ∷ is) h =
     let both = neither (bytes_eq n.theory (spelling text t.name)) (has_name n.theory (theory_names text is)) h in
-    ap (λ (o : Option Tree). or_else o (lemma_in (parts_after text (earlier ++ item.Theory t ∷ []) is) n)) (other_theory (spelling text t.name) n (theory_entries text earlier t) both.0)
+    ap (λ (o : Option Tree). option_or o (lemma_in (parts_after text (earlier ++ item.Theory t ∷ []) is) n)) (other_theory (spelling text t.name) n (theory_entries text earlier t) both.0)
     ∙ none_before text n (earlier ++ item.Theory t ∷ []) is both.1
 none_before text n earlier (item.Proof p ∷ is) h = none_before text n (earlier ++ item.Proof p ∷ []) is h
 
-or_else-Some : (o p : Option Tree) (t : Tree) → o ≡ Some t → or_else o p ≡ Some t
-or_else-Some (Some s) p t h = h
-or_else-Some None p t h = cc
+option_or-Some : (o p : Option Tree) (t : Tree) → o ≡ Some t → option_or o p ≡ Some t
+option_or-Some (Some s) p t h = h
+option_or-Some None p t h = cc
 
 -- an accepted theory among the parts of items, with the items before and after it
 pub record IsTheoryAt (text : List ℕ) (earlier is : List Item) (theory : List ℕ) (es : List Entry) : Type 0 where
@@ -111,8 +112,8 @@ lemma_split text before after t es x name body h e =
     let rest = parts_after text (before ++ item.Theory t ∷ []) after in
     ap (λ (ps : List Part). lemma_in ps n) (parts_split text [] before after (item.Theory t))
     ∙ (lemma_in-append (parts_of text before) (part_of text before (item.Theory t) ∷ rest) n
-    ∙ (ap (λ (o : Option Tree). or_else o (or_else (part_lemma (part_of text before (item.Theory t)) n) (lemma_in rest n))) (none_before text n [] before a.first)
-    ∙ or_else-Some (part_lemma (part_of text before (item.Theory t)) n) (lemma_in rest n) body here))
+    ∙ (ap (λ (o : Option Tree). option_or o (option_or (part_lemma (part_of text before (item.Theory t)) n) (lemma_in rest n))) (none_before text n [] before a.first)
+    ∙ option_or-Some (part_lemma (part_of text before (item.Theory t)) n) (lemma_in rest n) body here))
 
 -- the lemma at a place of an accepted theory is the one that its name finds
 pub lemma_found : (text : List ℕ) (items : List Item) (theory : List ℕ) (es : List Entry) (x : ℕ) (name : List ℕ) (body : Tree) → Contains (parts_of text items) (Accepted theory es)

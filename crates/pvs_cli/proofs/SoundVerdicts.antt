@@ -1,23 +1,19 @@
 -- What is proved is true: a lemma that a proof proves is TRUE in every interpretation.
 use Rattle.std.proofs.Common.{◌≡◌, ◌∙◌, refl, ap, ℕ, Bool, true, false, ◌⊎◌, inl, inr, List, [], ◌∷◌, ◌++◌, Option, Some, None, Result, Ok, Err}
 use Rattle.std.specs.List.{list_any}
-use Rattle.std.proofs.lemmas.Bool.{and_parts, or_cases}
+use Rattle.std.proofs.lemmas.Bool.{or_cases}
 use Rattle.pvs_base.specs.declared.code.Fault.{Fault}
 use Rattle.pvs_syntax.specs.declared.unit.Proof.{Proof}
 use Rattle.pvs_script.specs.declared.tree.Script.{Script}
 use Rattle.pvs_terms.specs.Tree.{Tree, Ref}
 use Rattle.pvs_sem.specs.Truth.{Interpretation, truth}
 use Rattle.pvs_sequent.specs.Truth.{IsTrueSequent}
-use Rattle.pvs_replay.specs.Logic.{logic_effect}
-use Rattle.pvs_replay.specs.Replaying as replaying
-use Rattle.pvs_replay.specs.Replaying.{replay}
+use Rattle.pvs_replay.specs.Replaying.{Outcome, Proved, Open, Refused}
 use Rattle.pvs_replay.proofs.SoundReplay.{logic_sound}
 use Rattle.pvs_theory.specs.Names.{FormulaName, is_listed, is_same, named_by}
 use Rattle.pvs_theory.specs.Theories.{Part, Accepted, Rejected, Proving}
-use Rattle.pvs_cli.specs.declared.outcome.Outcome.{Outcome}
-use Rattle.pvs_cli.specs.declared.outcome.Outcome.TheVariants.{Proved, Open, Refused}
-use Rattle.pvs_cli.specs.Verdicts.{Scripts, goal, lemma_in, proof_outcome, script_outcome, summary, verdict}
-use Rattle.pvs_cli.specs.Outcomes.{is_proved, names_in, outcomes_after, outcomes_of, part_outcome, proves}
+use Rattle.pvs_cli.specs.Verdicts.{Scripts, goal, lemma_in, proof_outcome, script_outcome, verdict}
+use Rattle.pvs_cli.specs.Outcomes.{ProofOutcome, names_in, outcomes_after, outcomes_of, part_outcome, proves}
 use Rattle.pvs_theory.proofs.IndexLaws.{same_formula}
 
 -- TRUE in every interpretation
@@ -36,41 +32,36 @@ goal_sound m t h = go (or_cases (truth m t) false (h refl))
     go (inl e) = e
     go (inr e) = cc
 
--- a replay whose summary is Proved is proved
-proved_replay : (o : replaying.Outcome) → summary o ≡ Proved → (cited : List Ref) × (uses : List Ref) × (o ≡ replaying.Proved cited uses)
-proved_replay (replaying.Proved fs rs) h = (fs, rs, refl)
-proved_replay (replaying.Open q) h = cc
-proved_replay (replaying.Refused f) h = cc
-
 -- the formula of a goal that a script proves
-pub script_sound : (t : Tree) (r : Result Script Fault) → script_outcome (goal t) r ≡ Proved → IsValid t
-script_sound t (Ok x) h = λ m. let p = proved_replay (replay logic_effect x (goal t)) h in goal_sound m t (logic_sound m x (goal t) p.0 p.1 p.2)
-script_sound t (Err f) h = cc
+pub script_sound : (t : Tree) (r : Result Script Fault) (cited uses : List Ref) → script_outcome (goal t) r ≡ Proved cited uses → IsValid t
+script_sound t (Ok x) cited uses h = λ m. goal_sound m t (logic_sound m x (goal t) cited uses h)
+script_sound t (Err f) cited uses h = cc
 
 -- a proof that proves has a formula, and it is TRUE
-pub proof_sound : (p : Proof) (named : Bool) (o : Option Tree) (r : Result Script Fault) → proof_outcome p named o r ≡ Proved → (t : Tree) × (o ≡ Some t) × IsValid t
-proof_sound p named None r h = cc
-proof_sound p true (Some t) r h = cc
-proof_sound p false (Some t) r h = (t, refl, script_sound t r h)
+pub proof_sound : (p : Proof) (named : Bool) (o : Option Tree) (r : Result Script Fault) (cited uses : List Ref) → proof_outcome p named o r ≡ Proved cited uses → (t : Tree) × (o ≡ Some t) × IsValid t
+proof_sound p named None r cited uses h = cc
+proof_sound p true (Some t) r cited uses h = cc
+proof_sound p false (Some t) r cited uses h = (t, refl, script_sound t r cited uses h)
 
-is_proved_proved : (o : Outcome) → is_proved o ≡ true → o ≡ Proved
-is_proved_proved Proved h = refl
-is_proved_proved Open h = cc
-is_proved_proved (Refused f) h = cc
+-- an outcome that proves a formula is that of a proof of it
+proves_proved : (n m : FormulaName) (o : Outcome) → proves n (ProofOutcome m o) ≡ true → (cited : List Ref) × (uses : List Ref) × (o ≡ Proved cited uses) × (is_same n m ≡ true)
+proves_proved n m (Proved cited uses) h = (cited, uses, refl, h)
+proves_proved n m (Open q) h = cc
+proves_proved n m (Refused f) h = cc
 
 module _ (scripts : Scripts) (parts : List Part) where
   -- a proof after earlier ones that proves
-  pub verdict_sound : (earlier : List FormulaName) (text : List ℕ) (p : Proof) → verdict scripts parts earlier text p ≡ Proved → IsValidLemma parts (named_by text p)
-  verdict_sound earlier text p h = proof_sound p (is_listed (named_by text p) earlier) (lemma_in parts (named_by text p)) (scripts text p) h
+  pub verdict_sound : (earlier : List FormulaName) (text : List ℕ) (p : Proof) (cited uses : List Ref) → verdict scripts parts earlier text p ≡ Proved cited uses → IsValidLemma parts (named_by text p)
+  verdict_sound earlier text p cited uses h = proof_sound p (is_listed (named_by text p) earlier) (lemma_in parts (named_by text p)) (scripts text p) cited uses h
 
   -- the formula that a part proves
   pub part_sound : (earlier : List FormulaName) (p : Part) (n : FormulaName) → proves n (part_outcome scripts parts earlier p) ≡ true → IsValidLemma parts n
   part_sound earlier (Accepted theory es) n h = cc
   part_sound earlier (Rejected theory f) n h = cc
   part_sound earlier (Proving text p) n h =
-      let both = and_parts (is_same n (named_by text p)) (is_proved (verdict scripts parts earlier text p)) h in
-      let v = verdict_sound earlier text p (is_proved_proved (verdict scripts parts earlier text p) both.1) in
-      (v.0, ap (lemma_in parts) (same_formula n (named_by text p) both.0) ∙ v.1, v.2)
+      let q = proves_proved n (named_by text p) (verdict scripts parts earlier text p) h in
+      let v = verdict_sound earlier text p q.0 q.1 q.2 in
+      (v.0, ap (lemma_in parts) (same_formula n (named_by text p) q.3) ∙ v.1, v.2)
 
   pub parts_sound : (earlier : List FormulaName) (ps : List Part) (n : FormulaName) → list_any (proves n) (outcomes_after scripts parts earlier ps) ≡ true → IsValidLemma parts n
   parts_sound earlier [] n h = cc

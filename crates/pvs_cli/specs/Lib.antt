@@ -1,11 +1,10 @@
 pub mod Verdicts
 pub mod Outcomes
-pub mod Shown
 pub mod Reporting
+pub mod Exposed
 pub mod Input
-pub mod Soundness
 pub mod ExitCodes
 pub mod Output
+pub mod Soundness
 pub mod SoundFacts
-pub mod OpenExample
-pub mod LemmaIndex
+pub mod code

@@ -1,12 +1,12 @@
--- The parts of a unit with the outcomes of the proofs among them, and the statuses of lemmas that follow.
-use Rattle.std.specs.Prelude.{◌&&◌, ℕ, Bool, true, false, if◌then◌else◌, List, [], ◌∷◌, ◌++◌}
+-- The parts of a unit with the outcomes of the proofs among them, and the words for lemmas that follow.
+use Rattle.std.specs.Prelude.{ℕ, Bool, false, if◌then◌else◌, List, [], ◌∷◌, ◌++◌}
 use Rattle.std.specs.List.{list_any}
 use Rattle.pvs_base.specs.declared.code.Fault.{Fault}
+use Rattle.pvs_replay.specs.Replaying.{Outcome, Proved}
+use Rattle.pvs_report.specs.Lines.{LineWord, CompleteWord, OpenWord}
 use Rattle.pvs_theory.specs.Names.{FormulaName, is_same, named_by}
 use Rattle.pvs_theory.specs.Entries.{Entry}
 use Rattle.pvs_theory.specs.Theories.{Part, Accepted, Rejected, Proving}
-use Rattle.pvs_cli.specs.declared.outcome.Outcome.{Outcome}
-use Rattle.pvs_cli.specs.declared.outcome.Outcome.TheVariants.{Proved, Open, Refused}
 use Rattle.pvs_cli.specs.Verdicts.{Scripts, verdict}
 
 -- a part of a unit with its outcome
@@ -26,9 +26,8 @@ part_outcome scripts parts earlier (Proving text p) = ProofOutcome (named_by tex
 
 -- the formula that a part names where it is a proof
 abbrev pub names_in : Part → List FormulaName
-names_in (Accepted theory es) = []
-names_in (Rejected theory f) = []
 names_in (Proving text p) = named_by text p ∷ []
+names_in _ = []
 
 -- the outcomes of the last parts of a unit, where the proofs before them name these formulas
 abbrev pub outcomes_after : Scripts → List Part → List FormulaName → List Part → List PartOutcome
@@ -39,22 +38,11 @@ outcomes_after scripts parts earlier (p ∷ ps) = part_outcome scripts parts ear
 abbrev pub outcomes_of : Scripts → List Part → List PartOutcome
 outcomes_of scripts parts = outcomes_after scripts parts [] parts
 
--- whether a proof comes to its end
-abbrev pub is_proved : Outcome → Bool
-is_proved Proved = true
-is_proved Open = false
-is_proved (Refused f) = false
-
 -- whether an outcome is that of a proof that proves this formula
 abbrev pub proves : FormulaName → PartOutcome → Bool
-proves n (TheoryAccepted theory es) = false
-proves n (TheoryRefused theory f) = false
-proves n (ProofOutcome m o) = is_same n m && is_proved o
+proves n (ProofOutcome m (Proved cited uses)) = is_same n m
+proves n _ = false
 
-pub data LemmaStatus : Type 0 where
-  Unproved : LemmaStatus
-  Complete : LemmaStatus
-
--- the status of each lemma of a unit whose parts have these outcomes
-abbrev pub statuses_of : List PartOutcome → FormulaName → LemmaStatus
-statuses_of os n = if list_any (proves n) os then Complete else Unproved
+-- the word for each lemma of a unit whose parts have these outcomes
+abbrev pub lemma_word : List PartOutcome → FormulaName → LineWord
+lemma_word os n = if list_any (proves n) os then CompleteWord else OpenWord

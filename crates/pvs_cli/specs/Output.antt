@@ -1,11 +1,11 @@
--- What a run is to write and how it is to end, and what it wrote. Bytes that a source or a sink does not expose to contracts are None. No
--- call changes whether they are exposed.
-use Rattle.std.specs.Prelude.{◌≡◌, ◌≤◌, ◌<◌, ◌+◌, ◌^◌, ◌||◌, ℕ, Bool, true, false, codes, if◌then◌else◌, List, [], ◌∷◌, ◌++◌, length, take, Option, Some, None, ⊤}
+-- What a run is to write and how it is to end, and what it wrote.
+use Rattle.std.specs.Prelude.{◌≡◌, ◌<◌, ◌+◌, ◌^◌, ◌||◌, ℕ, Bool, true, false, codes, if◌then◌else◌, List, [], ◌∷◌, ◌++◌, length, take, Option, Some, None, ⊤}
 use Rattle.std.specs.List.{list_any}
 use Rattle.pvs_cli.specs.declared.status.Status.{Status}
 use Rattle.pvs_cli.specs.declared.status.Status.TheVariants as status
 use Rattle.pvs_report.specs.Lines.{Line, bytes_of, is_open, is_refused}
 use Rattle.pvs_cli.specs.Reporting.{IsReport}
+use Rattle.pvs_cli.specs.Exposed.{OfExposed, OfInput}
 
 -- a line of an open formula or of a refusal
 abbrev pub is_unfinished : Line → Bool
@@ -59,46 +59,10 @@ pub record WritesOutput (IsMeant : List ℕ → Status → Type 0) (before after
   pub added : Adds before after (has_whole_output result) bytes
   pub status : has_whole_output result ≡ true → result ≡ end
 
--- The same for an output that depends on the input, by the bytes that were left before and after the run. An input that is not exposed is
--- some text, of at most one byte more than a text may have.
-abbrev pub WritesFor : (List ℕ → List ℕ → Status → Type 0) → Option (List ℕ) → Option (List ℕ) → Option (List ℕ) → Option (List ℕ) → Status → Type 0
-WritesFor IsMeant None None before after result = (text : List ℕ) × (length text ≤ 2 ^ 20 + 1) × WritesOutput (IsMeant text) before after result
-WritesFor IsMeant None (Some left) before after result = ⊥
-WritesFor IsMeant (Some input) None before after result = ⊥
-WritesFor IsMeant (Some input) (Some left) before after result = WritesOutput (IsMeant input) before after result
-
--- what a run with these words wrote, and how it ended
+-- what a run with these words wrote, and how it ended, by the bytes that were left before and after it
 abbrev pub Writes : List (List ℕ) → Option (List ℕ) → Option (List ℕ) → Option (List ℕ) → Option (List ℕ) → Status → Type 0
-Writes words old new before after result = WritesFor (IsOutput words) old new before after result
+Writes words old new before after result = OfInput (λ input. WritesOutput (IsOutput words input) before after result) old new
 
 -- the text of a unit was taken
 abbrev pub TakesUnit : Option (List ℕ) → Option (List ℕ) → Type 0
-TakesUnit None None = ⊤
-TakesUnit None (Some new) = ⊥
-TakesUnit (Some old) None = ⊥
-TakesUnit (Some old) (Some new) = text_of old ++ new ≡ old
-
--- bytes are those of the report of a text, and a run that wrote them ends so
-abbrev pub IsReportOf : List ℕ → List ℕ → Status → Type 0
-IsReportOf text bytes end = (lines : List Line) × IsReport text lines × (bytes ≡ bytes_of lines) × (end ≡ exit_status lines)
-
--- the report of a text was written, as above
-abbrev pub WritesReportOf : List ℕ → Option (List ℕ) → Option (List ℕ) → Status → Type 0
-WritesReportOf text before after result = WritesOutput (IsReportOf text) before after result
-
--- the report of the text of the input was written, as above
-abbrev pub WritesReport : Option (List ℕ) → Option (List ℕ) → Option (List ℕ) → Option (List ℕ) → Status → Type 0
-WritesReport old new before after result = WritesFor (λ input. IsReportOf (text_of input)) old new before after result
-
--- how the writing of a report may end
-abbrev pub ends_writing : Status → Bool
-ends_writing status.Clean = true
-ends_writing status.Unfinished = true
-ends_writing status.OutputFault = true
-ends_writing status.Memory = true
-ends_writing _ = false
-
--- how a check may end
-abbrev pub ends_check : Status → Bool
-ends_check status.InputFault = true
-ends_check end = ends_writing end
+TakesUnit = OfExposed (λ old new. text_of old ++ new ≡ old)

@@ -1,5 +1,5 @@
 -- What is printed complete is true.
-use Rattle.std.specs.Prelude.{◌≡◌, ◌≤◌, ◌<◌, ◌+◌, ◌^◌, ℕ, true, List, ◌++◌, length, slice_get, Contains, Option, None, Some, Ok, ⊤}
+use Rattle.std.specs.Prelude.{◌≡◌, ◌<◌, ℕ, true, List, ◌++◌, slice_get, Contains, Option, Some, Ok}
 use Rattle.pvs_syntax.specs.declared.unit.Unit as unit
 use Rattle.pvs_syntax.specs.declared.unit.FormulaWord.TheVariants as formula_word
 use Rattle.pvs_parser.specs.Text.{IsAnswer}
@@ -8,6 +8,7 @@ use Rattle.pvs_sem.specs.Truth.{Interpretation, truth}
 use Rattle.pvs_theory.specs.Entries.{Entry, Formula}
 use Rattle.pvs_theory.specs.Theories.{Accepted, parts_of}
 use Rattle.pvs_report.specs.Lines.{Line, FormulaLine, CompleteWord, bytes_of}
+use Rattle.pvs_cli.specs.Exposed.{OfExposed, OfInput}
 use Rattle.pvs_cli.specs.Output.{text_of}
 use Rattle.pvs_cli.specs.Reporting.{IsReport}
 
@@ -25,14 +26,8 @@ IsSound text lines = (u : unit.Unit) (theory : List ℕ) (es : List Entry) (x : 
 
 -- where the output is exposed: the lines of the report of a text were added, and what they print as complete is true
 abbrev pub AddsTruth : List ℕ → Option (List ℕ) → Option (List ℕ) → Type 0
-AddsTruth text None None = ⊤
-AddsTruth text None (Some after) = ⊥
-AddsTruth text (Some before) None = ⊥
-AddsTruth text (Some before) (Some after) = (lines : List Line) × IsReport text lines × (after ≡ before ++ bytes_of lines) × IsSound text lines
+AddsTruth text = OfExposed (λ before after. (lines : List Line) × IsReport text lines × (after ≡ before ++ bytes_of lines) × IsSound text lines)
 
--- the same of the text of the input, by the bytes that were left before and after the run; of some text where they are not exposed
+-- the same of the text of the input, by the bytes that were left before and after the run
 abbrev pub WritesTruth : Option (List ℕ) → Option (List ℕ) → Option (List ℕ) → Option (List ℕ) → Type 0
-WritesTruth None None before after = (text : List ℕ) × (length text ≤ 2 ^ 20 + 1) × AddsTruth text before after
-WritesTruth None (Some left) before after = ⊥
-WritesTruth (Some input) None before after = ⊥
-WritesTruth (Some input) (Some left) before after = AddsTruth (text_of input) before after
+WritesTruth old new before after = OfInput (λ input. AddsTruth (text_of input) before after) old new

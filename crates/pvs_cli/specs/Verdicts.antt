@@ -1,23 +1,19 @@
 -- What the proof of a formula comes to: its verdict.
-use Rattle.std.specs.Prelude.{ℕ, Bool, true, false, bytes_eq, if◌then◌else◌, List, [], ◌∷◌, Option, Some, None, Result, Ok, Err, ⊤}
+use Rattle.std.specs.Prelude.{ℕ, Bool, true, false, bytes_eq, if◌then◌else◌, List, [], ◌∷◌, Option, Some, None, Result, Ok, Err}
+use Rattle.std.specs.Option.{option_or}
 use Rattle.pvs_base.specs.declared.code.Fault.{Fault}
 use Rattle.pvs_base.specs.declared.code.Code.TheVariants as code
 use Rattle.pvs_syntax.specs.declared.unit.Proof.{Proof}
 use Rattle.pvs_syntax.specs.declared.unit.FormulaWord.TheVariants as formula_word
-use Rattle.pvs_syntax.specs.declared.unit.Item.TheVariants as item
-use Rattle.pvs_parser.specs.Text.{SpanIn}
 use Rattle.pvs_script.specs.declared.tree.Script.{Script}
 use Rattle.pvs_script.specs.Faults.{IsScriptAnswer}
 use Rattle.pvs_terms.specs.Tree.{Tree}
 use Rattle.pvs_sequent.specs.Sequents.{Sequent}
 use Rattle.pvs_replay.specs.Logic.{logic_effect}
-use Rattle.pvs_replay.specs.Replaying as replaying
-use Rattle.pvs_replay.specs.Replaying.{replay}
-use Rattle.pvs_cli.specs.declared.outcome.Outcome.{Outcome}
-use Rattle.pvs_cli.specs.declared.outcome.Outcome.TheVariants.{Proved, Open, Refused}
+use Rattle.pvs_replay.specs.Replaying.{Outcome, Refused, replay}
 use Rattle.pvs_theory.specs.Names.{FormulaName, is_listed, named_by}
 use Rattle.pvs_theory.specs.Entries.{Entry, EntryKind, Formula}
-use Rattle.pvs_theory.specs.Theories.{Part, Accepted, Rejected, Proving}
+use Rattle.pvs_theory.specs.Theories.{Part, Accepted}
 
 -- for each text and each proof in it a script, or a fault
 abbrev pub Scripts : Type 0
@@ -29,37 +25,25 @@ AreScripts scripts = (text : List ℕ) (p : Proof) → IsScriptAnswer text p (sc
 
 -- ---- The lemma that a proof names.
 
--- the formula of an entry that is a lemma
-abbrev pub lemma_formula : EntryKind → Option Tree
-lemma_formula (Formula formula_word.Lemma t) = Some t
-lemma_formula _ = None
-
 -- the formula of an entry that is the lemma of this name
 abbrev pub lemma_of : List ℕ → List ℕ → EntryKind → Option Tree
-lemma_of name n kind = if bytes_eq n name then lemma_formula kind else None
-
-abbrev pub or_else : Option Tree → Option Tree → Option Tree
-or_else (Some t) o = Some t
-or_else None o = o
+lemma_of name n (Formula formula_word.Lemma t) = if bytes_eq n name then Some t else None
+lemma_of name n _ = None
 
 -- the formula of the first lemma of this name
 abbrev pub lemma_named : List Entry → List ℕ → Option Tree
 lemma_named [] name = None
-lemma_named (e ∷ es) name = or_else (lemma_of name e.name e.kind) (lemma_named es name)
+lemma_named (e ∷ es) name = option_or (lemma_of name e.name e.kind) (lemma_named es name)
 
--- the formula of a lemma of this theory
-abbrev pub theory_lemma : List ℕ → List Entry → FormulaName → Option Tree
-theory_lemma theory es n = if bytes_eq theory n.theory then lemma_named es n.formula else None
-
+-- the formula of a lemma, where a part is an accepted theory that has it
 abbrev pub part_lemma : Part → FormulaName → Option Tree
-part_lemma (Accepted theory es) n = theory_lemma theory es n
-part_lemma (Rejected theory f) n = None
-part_lemma (Proving text p) n = None
+part_lemma (Accepted theory es) n = if bytes_eq theory n.theory then lemma_named es n.formula else None
+part_lemma _ n = None
 
 -- the formula of a lemma, where an accepted theory of that name has it
 abbrev pub lemma_in : List Part → FormulaName → Option Tree
 lemma_in [] n = None
-lemma_in (p ∷ ps) n = or_else (part_lemma p n) (lemma_in ps n)
+lemma_in (p ∷ ps) n = option_or (part_lemma p n) (lemma_in ps n)
 
 -- ---- Its verdict.
 
@@ -67,15 +51,9 @@ lemma_in (p ∷ ps) n = or_else (part_lemma p n) (lemma_in ps n)
 abbrev pub goal : Tree → Sequent
 goal t = record { variables = []; antecedents = []; consequents = t ∷ [] }
 
--- an outcome of replay without what a report does not say
-abbrev pub summary : replaying.Outcome → Outcome
-summary (replaying.Proved fs rs) = Proved
-summary (replaying.Open q) = Open
-summary (replaying.Refused f) = Refused f
-
 -- the outcome of a script on a sequent, or the first fault of the script
 abbrev pub script_outcome : Sequent → Result Script Fault → Outcome
-script_outcome q (Ok x) = summary (replay logic_effect x q)
+script_outcome q (Ok x) = replay logic_effect x q
 script_outcome q (Err f) = Refused f
 
 -- no such formula, at the name of the theory
@@ -91,9 +69,3 @@ proof_outcome p false (Some t) script = script_outcome (goal t) script
 -- the outcome of a proof of a text, in a unit with these parts, where earlier proofs name these formulas
 abbrev pub verdict : Scripts → List Part → List FormulaName → List ℕ → Proof → Outcome
 verdict scripts parts earlier text p = proof_outcome p (is_listed (named_by text p) earlier) (lemma_in parts (named_by text p)) (scripts text p)
-
--- the script of a part that is a proof lies in its text
-abbrev pub IsPartIn : Part → Type 0
-IsPartIn (Accepted theory es) = ⊤
-IsPartIn (Rejected theory f) = ⊤
-IsPartIn (Proving text p) = SpanIn text (item.Proof p)

@@ -2,7 +2,7 @@
 
 ghost use Rattle.std.specs.Prelude.{◌≡◌, ◌≤◌, ◌<◌, ◌+◌, ◌^◌, [], ◌++◌, vec_len};
 ghost use Rattle.pvs_io.specs.Outside.{HasCause};
-ghost use Rattle.pvs_cli.specs.Input.{IsAtEnd, ReadsChunk, ReadsText};
+ghost use Rattle.pvs_cli.specs.code.Reading.{IsAtEnd, ReadsChunk, ReadsText};
 
 use pvs_base::MAX_TEXT;
 use pvs_io::{Source, Took};

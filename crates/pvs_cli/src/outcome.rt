@@ -3,7 +3,7 @@
 ghost use Rattle.std.specs.Prelude.{◌≡◌};
 ghost use Rattle.pvs_terms.specs.Stored.{Stored};
 ghost use Rattle.pvs_replay.specs.Numbers.{outcome_at};
-ghost use Rattle.pvs_cli.specs.Verdicts.{summary};
+ghost use Rattle.pvs_cli.specs.code.Shown.{summary};
 
 use pvs_base::Fault;
 use pvs_replay as replaying;

@@ -1,16 +1,15 @@
 //! The outcomes of the parts of a unit.
 
-ghost use Rattle.std.specs.Prelude.{◌≡◌, ◌≤◌, ◌^◌, ◌||◌, ◌++◌, ◌∷◌, [], List, ℕ, length, is_some, IfOk, OnOk};
+ghost use Rattle.std.specs.Prelude.{◌≡◌, ◌≤◌, ◌^◌, ◌||◌, ◌++◌, ◌∷◌, [], List, ℕ, length, map, is_some, IfOk, OnOk};
 ghost use Rattle.std.specs.List.{All, list_any};
 ghost use Rattle.pvs_script.specs.code.Reading.{script_of};
 ghost use Rattle.pvs_theory.specs.code.Index.{HasFormulas, formula_value};
 ghost use Rattle.pvs_terms.specs.Stored.{Stored};
-ghost use Rattle.pvs_cli.specs.LemmaIndex.{HasLemmas, HasNodes};
+ghost use Rattle.pvs_cli.specs.code.LemmaIndex.{HasLemmas, HasNodes};
 ghost use Rattle.pvs_theory.specs.Names.{FormulaName};
-ghost use Rattle.pvs_cli.specs.Shown.{part_outcome_shown, part_outcomes_shown};
+ghost use Rattle.pvs_cli.specs.code.Shown.{IsPartIn, part_outcome_shown, part_outcomes_shown, plain};
 ghost use Rattle.pvs_theory.specs.code.Shown.{ArePartsOf, part_shown, parts_shown};
 ghost use Rattle.pvs_theory.specs.Theories as spec;
-ghost use Rattle.pvs_cli.specs.Verdicts.{IsPartIn};
 ghost use Rattle.pvs_cli.specs.Outcomes.{names_in, outcomes_of, part_outcome, proves};
 
 use crate::outcome::Outcome;
@@ -46,7 +45,7 @@ fn part_outcome<'e, 'a>(
     requires short { length text.now ≤ 2 ^ 20 }
     requires span { IsPartIn (part_shown store.now text.now part.now) }
     requires nodes { HasNodes store.now lemmas.now }
-    ensures outcome { (parts : List spec.Part) (earlier : List FormulaName) → HasLemmas store.now lemmas.now parts → HasFormulas named.old earlier → IfOk result (λ o. part_outcome_shown store.now text.now o ≡ part_outcome script_of parts earlier (part_shown store.now text.now part.now)) }
+    ensures outcome { (parts : List spec.Part) (earlier : List FormulaName) → HasLemmas store.now lemmas.now parts → HasFormulas named.old earlier → IfOk result (λ o. part_outcome_shown store.now text.now o ≡ plain (part_outcome script_of parts earlier (part_shown store.now text.now part.now))) }
     ensures names { (earlier : List FormulaName) → HasFormulas named.old earlier → OnOk result (HasFormulas named.new (earlier ++ names_in (part_shown store.now text.now part.now))) }
 {
     match part {
@@ -76,7 +75,7 @@ pub fn outcomes<'e, 'a>(
     requires short { length text.now ≤ 2 ^ 20 }
     requires spans { All (λ p. IsPartIn (part_shown store.now text.now p)) parts.now }
     requires nodes { ArePartsOf store.now parts.now }
-    ensures { IfOk result (λ v. part_outcomes_shown store.now text.now v.items ≡ outcomes_of script_of (parts_shown store.now text.now parts.now)) }
+    ensures { IfOk result (λ v. part_outcomes_shown store.now text.now v.items ≡ map plain (outcomes_of script_of (parts_shown store.now text.now parts.now))) }
 {
     let lemmas = index_lemmas(alloc, text, parts)?;
     let mut named = FormulaIndex::new(alloc);

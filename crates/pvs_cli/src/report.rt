@@ -1,18 +1,21 @@
 //! The report of a text.
 
-ghost use Rattle.std.specs.Prelude.{◌≡◌, ◌≤◌, ◌^◌, ◌++◌, length, option_to_list, IfOk, OnOk};
+ghost use Rattle.std.specs.Prelude.{◌≡◌, ◌≤◌, ◌^◌, ◌++◌, ◌∷◌, [], codes, length, option_to_list, IfOk, OnOk};
 ghost use Rattle.std.specs.List.{All, list_any};
 ghost use Rattle.std.specs.Option.{option_map};
 ghost use Rattle.pvs_parser.specs.Text.{SpanIn};
 ghost use Rattle.pvs_script.specs.code.Reading.{script_of};
-ghost use Rattle.pvs_cli.specs.LemmaIndex.{status_in};
+ghost use Rattle.pvs_cli.specs.code.LemmaIndex.{word_in};
 ghost use Rattle.pvs_terms.specs.Stored.{Stored};
-ghost use Rattle.pvs_cli.specs.Shown.{part_outcome_shown, part_outcomes_shown};
+ghost use Rattle.pvs_cli.specs.code.Shown.{outcome_shown, part_outcome_shown, part_outcomes_shown};
 ghost use Rattle.pvs_theory.specs.code.Shown.{entries_shown, entry_shown};
-ghost use Rattle.pvs_report.specs.Lines.{bytes_of};
+ghost use Rattle.pvs_report.specs.Lines.{RefusedLine, bytes_of};
 ghost use Rattle.pvs_report.specs.Printed.{line_shown, lines_shown, word_shown};
-ghost use Rattle.pvs_cli.specs.Reporting.{IsReport, entry_lines, formula_lines, outcome_lines, part_lines, proof_line, status_word, unit_lines, unit_refusal, with_total};
-ghost use Rattle.pvs_cli.specs.Output.{IsReportOf, exit_status, is_unfinished};
+ghost use Rattle.pvs_theory.specs.Theories.{parts_of};
+ghost use Rattle.pvs_cli.specs.Outcomes.{outcomes_of};
+ghost use Rattle.pvs_cli.specs.Reporting.{IsReport, entry_lines, formula_lines, outcome_lines, part_lines, proof_line, with_total};
+ghost use Rattle.pvs_cli.specs.Output.{exit_status, is_unfinished};
+ghost use Rattle.pvs_cli.specs.code.Writing.{IsReportOf};
 
 use crate::outcome::Outcome;
 use crate::outcomes::{PartOutcome, outcomes, proved_formulas};
@@ -27,7 +30,7 @@ use std::alloc::{AllocError, Global};
 
 /// What the line of a lemma says of it, where these formulas are proved.
 fn lemma_word<'a>(proved: &FormulaIndex<'a, ()>, theory: &'a [u8], name: &'a [u8]) -> LineWord<'a>
-    ensures { word_shown result ≡ status_word (status_in proved.now (record { theory = theory.now; formula = name.now })) }
+    ensures { word_shown result ≡ word_in proved.now (record { theory = theory.now; formula = name.now }) }
 {
     if proved.find(theory, name).is_some() {
         LineWord::CompleteWord
@@ -44,7 +47,7 @@ fn entry_line<'a>(
     theory: &'a [u8],
     entry: &Entry,
 ) -> Option<Line<'a>>
-    ensures { (s : Stored) → option_to_list (option_map line_shown result) ≡ entry_lines (status_in proved.now) theory.now (entry_shown s text.now entry.now).name (entry_shown s text.now entry.now).kind }
+    ensures { (s : Stored) → option_to_list (option_map line_shown result) ≡ entry_lines (word_in proved.now) theory.now (entry_shown s text.now entry.now).name (entry_shown s text.now entry.now).kind }
 {
     let Entry::Formula(name, word, _) = entry else {
         return None;
@@ -83,7 +86,7 @@ fn push_formulas<'a>(
     theory: &'a [u8],
     entries: &[Entry],
 ) -> Result<(), AllocError>
-    ensures { (s : Stored) → OnOk result (lines_shown lines.new.items ≡ lines_shown lines.old.items ++ formula_lines (status_in proved.now) theory.now (entries_shown s text.now entries.now)) }
+    ensures { (s : Stored) → OnOk result (lines_shown lines.new.items ≡ lines_shown lines.old.items ++ formula_lines (word_in proved.now) theory.now (entries_shown s text.now entries.now)) }
 {
     for entry in entries {
         push_some(lines, entry_line(text, proved, theory, entry))?;
@@ -98,7 +101,7 @@ fn push_part<'a>(
     proved: &FormulaIndex<'a, ()>,
     outcome: &PartOutcome<'_, 'a>,
 ) -> Result<(), AllocError>
-    ensures { (s : Stored) → OnOk result (lines_shown lines.new.items ≡ lines_shown lines.old.items ++ part_lines (status_in proved.now) (part_outcome_shown s text.now outcome.now)) }
+    ensures { (s : Stored) → OnOk result (lines_shown lines.new.items ≡ lines_shown lines.old.items ++ part_lines (word_in proved.now) (part_outcome_shown s text.now outcome.now)) }
 {
     match outcome {
         PartOutcome::Accepted(theory, entries) => {
@@ -121,7 +124,7 @@ fn push_part<'a>(
 
 /// The line of a proof with its outcome: one where it is refused.
 fn proof_line<'a>(theory: &'a [u8], formula: &'a [u8], outcome: &Outcome) -> Option<Line<'a>>
-    ensures { option_to_list (option_map line_shown result) ≡ proof_line (record { theory = theory.now; formula = formula.now }) outcome.now }
+    ensures { option_to_list (option_map line_shown result) ≡ proof_line (record { theory = theory.now; formula = formula.now }) (outcome_shown outcome.now) }
 {
     match outcome {
         Outcome::Refused(fault) => Some(Line::RefusedLine {
@@ -149,6 +152,22 @@ fn outcome_lines<'a>(
     Ok(lines)
 }
 
+/// The lines of a unit with these items, whose formulas are added to a store.
+fn stored_lines<'a>(
+    alloc: Global,
+    store: &mut Store,
+    text: &'a [u8],
+    items: &[Item],
+) -> Result<Vec<Line<'a>>, AllocError>
+    requires short { length text.now ≤ 2 ^ 20 }
+    requires spans { All (SpanIn text.now) items.now }
+    ensures { IfOk result (λ v. lines_shown v.items ≡ outcome_lines (outcomes_of script_of (parts_of text.now items.now))) }
+{
+    let parts = parts(alloc, store, text, items)?;
+    let outcomes = outcomes(alloc, store, text, &parts)?;
+    outcome_lines(alloc, text, &outcomes)
+}
+
 /// The lines of a unit with these items.
 fn unit_lines<'a>(
     alloc: Global,
@@ -157,17 +176,15 @@ fn unit_lines<'a>(
 ) -> Result<Vec<Line<'a>>, AllocError>
     requires short { length text.now ≤ 2 ^ 20 }
     requires spans { All (SpanIn text.now) items.now }
-    ensures { IfOk result (λ v. lines_shown v.items ≡ unit_lines script_of text.now items.now) }
+    ensures { IfOk result (λ v. lines_shown v.items ≡ outcome_lines (outcomes_of script_of (parts_of text.now items.now))) }
 {
     let mut store = Store::new(alloc)?;
-    let parts = parts(alloc, &mut store, text, items)?;
-    let outcomes = outcomes(alloc, &store, text, &parts)?;
-    outcome_lines(alloc, text, &outcomes)
+    stored_lines(alloc, &mut store, text, items)
 }
 
 /// The line of a unit that is refused.
 fn unit_refusal<'a>(alloc: Global, fault: Fault) -> Result<Vec<Line<'a>>, AllocError>
-    ensures { IfOk result (λ v. lines_shown v.items ≡ unit_refusal fault) }
+    ensures { IfOk result (λ v. lines_shown v.items ≡ RefusedLine What.UnitOf (codes "u") fault ∷ []) }
 {
     let mut lines = Vec::new(alloc);
     lines.push(Line::RefusedLine {

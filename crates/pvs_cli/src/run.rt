@@ -4,7 +4,8 @@ ghost use Rattle.std.specs.Prelude.{◌≡◌, ◌≢◌, ◌+◌, ◌^◌, ◌�
 ghost use Rattle.pvs_cli.specs.declared.status.Status.{Status};
 ghost use Rattle.pvs_io.specs.Outside.{HasCause, Rose};
 ghost use Rattle.pvs_cli.specs.Input.{TakesAtMost};
-ghost use Rattle.pvs_cli.specs.Output.{Adds, HasOneOutput, IsCheck, TakesUnit, Writes, WritesReport, WritesReportOf, ends_check, ends_writing, has_whole_output, usage_line};
+ghost use Rattle.pvs_cli.specs.Output.{Adds, HasOneOutput, IsCheck, TakesUnit, Writes, has_whole_output, usage_line};
+ghost use Rattle.pvs_cli.specs.code.Writing.{WritesReport, WritesReportOf, ends_check, ends_writing};
 ghost use Rattle.pvs_report.specs.Lines.{Line};
 ghost use Rattle.pvs_cli.specs.Reporting.{IsReport};
 ghost use Rattle.pvs_cli.specs.Soundness.{IsSound, WritesTruth};

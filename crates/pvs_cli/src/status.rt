@@ -8,25 +8,18 @@ ghost use Rattle.pvs_cli.specs.ExitCodes.{exit_code};
 pub enum Status {
     /// The whole report was written. Nothing was refused, and every lemma is complete.
     Clean,
-
     /// The whole report was written. Something was refused, or a lemma is not complete.
     Unfinished,
-
     /// The program has no such command line. The usage line was written.
     BadWords,
-
     /// The input failed. Nothing was written.
     InputFault,
-
     /// The output failed. A proper prefix of the output was written.
     OutputFault,
-
     /// The input is not a list of commands. The program does not end so yet.
     BadStream,
-
     /// The input is longer than a session may be. The program does not end so yet.
     TooMuchInput,
-
     /// Memory ran out. A proper prefix of the output was written.
     Memory,
 }

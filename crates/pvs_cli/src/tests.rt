@@ -4,7 +4,6 @@ mod scripts;
 mod sizes;
 mod streams;
 mod theories;
-mod trees;
 mod units;
 
 ghost use Rattle.std.specs.Prelude.{IfOk};
@@ -61,10 +60,25 @@ fn outcome(
     let bytes = text.to_vec(alloc)?;
     let mut source = MemSource::new(bytes, piece.max(1), failing(alloc, source_fails)?);
     let mut sink = MemSink::new(alloc, room, failing(alloc, sink_fails)?)?;
+    let status = status_of(alloc, words, &mut source, &mut sink);
+    run_left(alloc, status, &mut source, &sink)
+}
+
+/// Runs the program without files.
+fn status_of(alloc: Global, words: &[&str], source: &mut MemSource, sink: &mut MemSink) -> Status {
     let mut files = MemFiles::new(alloc, Vec::new(alloc), Vec::new(alloc));
-    let status = run(alloc, words, &mut files, &mut source, &mut sink);
+    run(alloc, words, &mut files, source, sink)
+}
+
+/// What a run left.
+fn run_left(
+    alloc: Global,
+    status: Status,
+    source: &mut MemSource,
+    sink: &MemSink,
+) -> Result<Went, AllocError> {
     let written = sink.bytes().to_vec(alloc)?;
-    let behind = next_of(alloc, &mut source)?;
+    let behind = next_of(alloc, source)?;
     Ok(Went {
         status,
         written,

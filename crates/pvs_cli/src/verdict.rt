@@ -1,16 +1,19 @@
 //! The verdicts of proofs.
 
 ghost use Rattle.std.specs.Prelude.{◌≡◌, ◌≤◌, ◌^◌, List, [], ◌∷◌, length, IfOk, OnOk};
+ghost use Rattle.std.specs.Option.{option_or};
 ghost use Rattle.pvs_syntax.specs.declared.unit.Item.TheVariants as item;
 ghost use Rattle.pvs_parser.specs.Text.{SpanIn};
 ghost use Rattle.pvs_script.specs.code.Reading.{script_of};
 ghost use Rattle.pvs_terms.specs.Stored.{Stored, IsNode, tree_at};
 ghost use Rattle.pvs_theory.specs.code.Index.{HasFormulas};
-ghost use Rattle.pvs_cli.specs.LemmaIndex.{HasLemmas, HasNodes, lemma_tree};
+ghost use Rattle.pvs_cli.specs.code.LemmaIndex.{HasLemmas, HasNodes, lemma_tree};
 ghost use Rattle.pvs_theory.specs.Names.{FormulaName};
 ghost use Rattle.pvs_theory.specs.code.Shown.{AreEntriesOf, ArePartsOf, IsEntryOf, IsPartOf, entries_shown, entry_shown, part_shown, parts_shown};
+ghost use Rattle.pvs_theory.specs.Theories.{Accepted};
 ghost use Rattle.pvs_theory.specs.Theories as spec;
-ghost use Rattle.pvs_cli.specs.Verdicts.{goal, or_else, part_lemma, script_outcome, theory_lemma, verdict};
+ghost use Rattle.pvs_cli.specs.code.Shown.{summary};
+ghost use Rattle.pvs_cli.specs.Verdicts.{goal, part_lemma, script_outcome, verdict};
 
 use crate::outcome::{Outcome, summary};
 use pvs_base::{Code, Fault};
@@ -29,7 +32,7 @@ fn add_lemma<'a>(
     theory: &'a [u8],
     entry: &Entry,
 ) -> Result<(), AllocError>
-    ensures trees { (s : Stored) (n : FormulaName) → OnOk result (lemma_tree s formulas.new n ≡ or_else (lemma_tree s formulas.old n) (theory_lemma theory.now (entry_shown s text.now entry.now ∷ []) n)) }
+    ensures trees { (s : Stored) (n : FormulaName) → OnOk result (lemma_tree s formulas.new n ≡ option_or (lemma_tree s formulas.old n) (part_lemma (Accepted theory.now (entry_shown s text.now entry.now ∷ [])) n)) }
     ensures nodes { (s : Stored) → HasNodes s formulas.old → IsEntryOf s entry.now → OnOk result (HasNodes s formulas.new) }
 {
     match entry {
@@ -47,7 +50,7 @@ fn add_lemmas<'a>(
     theory: &'a [u8],
     entries: &[Entry],
 ) -> Result<(), AllocError>
-    ensures trees { (s : Stored) (n : FormulaName) → OnOk result (lemma_tree s formulas.new n ≡ or_else (lemma_tree s formulas.old n) (theory_lemma theory.now (entries_shown s text.now entries.now) n)) }
+    ensures trees { (s : Stored) (n : FormulaName) → OnOk result (lemma_tree s formulas.new n ≡ option_or (lemma_tree s formulas.old n) (part_lemma (Accepted theory.now (entries_shown s text.now entries.now)) n)) }
     ensures nodes { (s : Stored) → HasNodes s formulas.old → AreEntriesOf s entries.now → OnOk result (HasNodes s formulas.new) }
 {
     for entry in entries {
@@ -62,7 +65,7 @@ fn add_part<'a>(
     text: &'a [u8],
     part: &Part<'_>,
 ) -> Result<(), AllocError>
-    ensures trees { (s : Stored) (n : FormulaName) → OnOk result (lemma_tree s formulas.new n ≡ or_else (lemma_tree s formulas.old n) (part_lemma (part_shown s text.now part.now) n)) }
+    ensures trees { (s : Stored) (n : FormulaName) → OnOk result (lemma_tree s formulas.new n ≡ option_or (lemma_tree s formulas.old n) (part_lemma (part_shown s text.now part.now) n)) }
     ensures nodes { (s : Stored) → HasNodes s formulas.old → IsPartOf s part.now → OnOk result (HasNodes s formulas.new) }
 {
     match part {
@@ -101,7 +104,7 @@ fn script_outcome(
     requires short { length text.now ≤ 2 ^ 20 }
     requires span { SpanIn text.now (item.Proof proof.now) }
     requires node { IsNode store.now formula }
-    ensures { IfOk result (λ o. o ≡ script_outcome (goal (tree_at store.now formula)) (script_of text.now proof.now)) }
+    ensures { IfOk result (λ o. o ≡ summary (script_outcome (goal (tree_at store.now formula)) (script_of text.now proof.now))) }
 {
     match read_script(alloc, text, proof) {
         Ok(script) => {
@@ -129,7 +132,7 @@ pub fn verdict<'a>(
     requires short { length text.now ≤ 2 ^ 20 }
     requires span { SpanIn text.now (item.Proof proof.now) }
     requires nodes { HasNodes store.now lemmas.now }
-    ensures { (parts : List spec.Part) (earlier : List FormulaName) → HasLemmas store.now lemmas.now parts → HasFormulas named.now earlier → IfOk result (λ o. o ≡ verdict script_of parts earlier text.now proof.now) }
+    ensures { (parts : List spec.Part) (earlier : List FormulaName) → HasLemmas store.now lemmas.now parts → HasFormulas named.now earlier → IfOk result (λ o. o ≡ summary (verdict script_of parts earlier text.now proof.now)) }
 {
     let no_such_formula = Outcome::Refused(Fault {
         pos: proof.theory.pos,

@@ -12,6 +12,12 @@ const PARENTHESES: &str = "unit u refused 1:2 Unexpected\n\
 const TOO_NESTED: &str = "unit u refused 1:234 TooNested\n\
     total complete 0 incomplete 0 open 0 refused 1\n";
 
+const TOO_MANY_MARKS: &str = "unit u refused 1:834 TooNested\n\
+    total complete 0 incomplete 0 open 0 refused 1\n";
+
+const TOO_LONG_CHAIN: &str = "unit u refused 1:1236 TooNested\n\
+    total complete 0 incomplete 0 open 0 refused 1\n";
+
 const TOO_LONG: &str = "unit u refused 1:1 TextTooLong\n\
     total complete 0 incomplete 0 open 0 refused 1\n";
 
@@ -76,24 +82,34 @@ fn large_units(rt: HostRuntime) -> Result<(), Fail> {
     Ok(())
 }
 
+/// A theory whose lemma is p, with so many openings before it and as many closings after it. The
+/// lemma begins in column 34.
+fn nested(alloc: Global, open: &str, close: &str, depth: usize) -> Result<String, AllocError> {
+    let mut text = String::from_str(alloc, "t: THEORY BEGIN p: bool l: LEMMA ")?;
+    for _ in 0..depth {
+        text.push_str(open)?;
+    }
+    text.push_str("p")?;
+    for _ in 0..depth {
+        text.push_str(close)?;
+    }
+    text.push_str(" END t")?;
+    Ok(text)
+}
+
 #[test]
 fn nesting(rt: HostRuntime) -> Result<(), Fail> {
-    for (depth, report) in [
-        (
-            200,
-            "theory t\nt.l open\ntotal complete 0 incomplete 0 open 1 refused 0\n",
-        ),
-        (201, TOO_NESTED),
+    let open = "theory t\nt.l open\ntotal complete 0 incomplete 0 open 1 refused 0\n";
+    for (before, after, depth, report) in [
+        ("(", ")", 200, open),
+        ("(", ")", 201, TOO_NESTED),
+        // The trees of these are as deep as those of a text may be.
+        ("NOT ", "", 200, open),
+        ("NOT ", "", 201, TOO_MANY_MARKS),
+        ("p AND ", "", 200, open),
+        ("p AND ", "", 201, TOO_LONG_CHAIN),
     ] {
-        let mut text = String::from_str(rt.alloc(), "t: THEORY BEGIN p: bool l: LEMMA ")?;
-        for _ in 0..depth {
-            text.push_str("(")?;
-        }
-        text.push_str("p")?;
-        for _ in 0..depth {
-            text.push_str(")")?;
-        }
-        text.push_str(" END t")?;
+        let text = nested(rt.alloc(), before, after, depth)?;
         assert_report(&rt, rt.alloc(), &text, report, Status::Unfinished)?;
     }
     Ok(())

@@ -1,9 +1,9 @@
 use Rattle.std.proofs.Common.{◌<◌, ◌≤◌, ◌∙◌, ◌||◌, length, take, map, rules, ap, sym}
 use Rattle.std.specs.List.{list_any}
 use Rattle.std.proofs.lemmas.List.{take_all}
-use Rattle.pvs_cli.specs.Shown.{part_outcome_shown, part_outcomes_shown}
+use Rattle.pvs_cli.specs.code.Shown.{part_outcome_shown, part_outcomes_shown}
 use Rattle.pvs_cli.specs.Outcomes.{proves}
-use Rattle.pvs_cli.proofs.IndexLaws.{any_push}
+use Rattle.pvs_theory.proofs.IndexLaws.{any_push}
 use Rattle.pvs_cli.proofs.Loops.{shown_more}
 use Rattle.pvs_cli.proofs.outcomes.proved_formulas.Goals as goal
 

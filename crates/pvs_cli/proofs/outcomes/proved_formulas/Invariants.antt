@@ -1,9 +1,9 @@
 use Rattle.std.proofs.Common.{◌≡◌, ℕ, List, is_some, take}
 use Rattle.std.specs.List.{list_any}
-use Rattle.pvs_cli.specs.Index.{formula_value}
-use Rattle.pvs_cli.specs.Names.{FormulaName}
+use Rattle.pvs_theory.specs.code.Index.{formula_value}
+use Rattle.pvs_theory.specs.Names.{FormulaName}
 use Rattle.pvs_terms.specs.Stored.{Stored}
-use Rattle.pvs_cli.specs.Shown.{part_outcomes_shown}
+use Rattle.pvs_cli.specs.code.Shown.{part_outcomes_shown}
 use Rattle.pvs_cli.specs.Outcomes.{proves}
 use Rattle.pvs_cli.proofs.outcomes.proved_formulas.Given as goal
 

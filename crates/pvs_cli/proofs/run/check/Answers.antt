@@ -1,5 +1,5 @@
 use Rattle.std.proofs.Common.{arith, refl, subst}
-use Rattle.pvs_cli.specs.Output.{WritesReportOf}
+use Rattle.pvs_cli.specs.code.Writing.{WritesReportOf}
 use Rattle.pvs_cli.proofs.InputLaws.{whole_taken, whole_unit}
 use Rattle.pvs_cli.proofs.OutputLaws.{report_unwritten, report_written}
 use Rattle.pvs_cli.proofs.run.check.Goals as goal

@@ -1,5 +1,5 @@
 use Rattle.std.proofs.Common.{◌<◌, ◌∙◌, length, take, rules, ap, sym}
-use Rattle.pvs_cli.specs.LemmaIndex.{lemma_tree}
+use Rattle.pvs_cli.specs.code.LemmaIndex.{lemma_tree}
 use Rattle.pvs_theory.specs.code.Shown.{part_shown, parts_shown}
 use Rattle.pvs_cli.specs.Verdicts.{lemma_in}
 use Rattle.pvs_cli.proofs.LemmaLaws.{parts_more}

@@ -1,6 +1,6 @@
 use Rattle.std.proofs.Common.{take}
 use Rattle.pvs_terms.specs.Stored.{Stored}
-use Rattle.pvs_cli.specs.LemmaIndex.{HasLemmas, HasNodes}
+use Rattle.pvs_cli.specs.code.LemmaIndex.{HasLemmas, HasNodes}
 use Rattle.pvs_theory.specs.code.Shown.{ArePartsOf, parts_shown}
 use Rattle.pvs_cli.proofs.verdict.index_lemmas.Given as goal
 

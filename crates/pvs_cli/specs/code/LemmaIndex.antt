@@ -1,14 +1,14 @@
 -- What an index of lemmas says.
 use Rattle.std.specs.Prelude.{◌≡◌, ℕ, if◌then◌else◌, is_some, List, Option, Some, None}
 use Rattle.std.specs.Option.{option_map}
-use Rattle.pvs_theory.specs.declared.index.FormulaIndex.{FormulaIndex}
 use Rattle.pvs_terms.specs.Tree.{Tree}
 use Rattle.pvs_terms.specs.Stored.{Stored, tree_at, IsNode}
+use Rattle.pvs_report.specs.Lines.{LineWord, CompleteWord, OpenWord}
+use Rattle.pvs_theory.specs.declared.index.FormulaIndex.{FormulaIndex}
 use Rattle.pvs_theory.specs.code.Index.{formula_value}
 use Rattle.pvs_theory.specs.Names.{FormulaName}
 use Rattle.pvs_theory.specs.Theories.{Part}
 use Rattle.pvs_cli.specs.Verdicts.{lemma_in}
-use Rattle.pvs_cli.specs.Outcomes.{LemmaStatus, Complete, Unproved}
 
 -- the tree that an index has for a formula
 abbrev pub lemma_tree : Stored → FormulaIndex ℕ → FormulaName → Option Tree
@@ -27,6 +27,6 @@ IsOptional s (Some i) = IsNode s i
 abbrev pub HasNodes : Stored → FormulaIndex ℕ → Type 0
 HasNodes s i = (n : FormulaName) → IsOptional s (formula_value i n)
 
--- the status of a lemma where the formulas of an index are proved
-abbrev pub status_in : {V : Type 0} → FormulaIndex V → FormulaName → LemmaStatus
-status_in i n = if is_some (formula_value i n) then Complete else Unproved
+-- the word for a lemma where the formulas of an index are proved
+abbrev pub word_in : {V : Type 0} → FormulaIndex V → FormulaName → LineWord
+word_in i n = if is_some (formula_value i n) then CompleteWord else OpenWord

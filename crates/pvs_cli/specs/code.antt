@@ -1,0 +1,4 @@
+pub mod Shown
+pub mod LemmaIndex
+pub mod Reading
+pub mod Writing
