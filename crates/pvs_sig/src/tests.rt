@@ -72,6 +72,11 @@ fn entries_count_from_zero(rt: HostRuntime) -> Result<(), Fail> {
     let mut store = Store::new(rt.alloc())?;
     let (name, boolean, truth) = parts(&mut store)?;
     let signature = signature(rt.alloc(), name, boolean, truth)?;
-    counts_from_zero(&rt, &signature, constant(name, boolean, truth), lemma(name, truth));
+    counts_from_zero(
+        &rt,
+        &signature,
+        constant(name, boolean, truth),
+        lemma(name, truth),
+    );
     Ok(())
 }

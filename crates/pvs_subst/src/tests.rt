@@ -148,7 +148,10 @@ fn conditions_hold_their_context(rt: HostRuntime) -> Result<(), Fail> {
 fn holds_its_context(rt: &impl Abort, store: &mut Store) -> Result<(), Fail> {
     let boolean = store.make(Node::TBool)?;
     let goal = store.make(Node::Var(0))?;
-    let items = Items::from_slice(store.allocator(), &[Assumed::Hyp(goal), Assumed::Bind(boolean)])?;
+    let items = Items::from_slice(
+        store.allocator(),
+        &[Assumed::Hyp(goal), Assumed::Bind(boolean)],
+    )?;
     let condition = Condition {
         context: Context { items },
         goal,
