@@ -22,17 +22,34 @@ fn lifting_goes_under_binders(rt: HostRuntime) -> Result<(), Fail> {
 }
 
 fn lifts_under_binders(rt: &impl Abort, store: &mut Store) -> Result<(), Fail> {
-    let boolean = store.make(Node::TBool)?;
-    let free = store.make(Node::Var(1))?;
-    let function = store.make(Node::Lam(boolean, free))?;
-    let lifted = lift(store, function, 3, 0)?;
-    if let Node::Lam(_, body) = store.view(lifted) {
-        assert!(rt; store.view(body) == Node::Var(4));
-    } else {
-        assert!(rt; false);
-    }
+    let function = comparison(store, 1)?;
+    let lifted = comparison(store, 4)?;
+    assert!(rt; lift(store, function, 3, 0)? == lifted);
     assert!(rt; lift(store, lifted, 3, 4)? == lifted);
     Ok(())
+}
+
+/// An equation of the variable of the nearest binder with another variable.
+fn equation(store: &mut Store, index: u32) -> Result<Id, MakeFault>
+    ensures ok { IfOk result (IsNode store.new) }
+    ensures term { IfOk result (λ id. IsTerm (tree_at store.new id)) }
+    ensures kept { Extends store.old store.new }
+{
+    let bound = store.make(Node::Var(0))?;
+    let free = store.make(Node::Var(index))?;
+    let made = store.make(Node::Eq(bound, free))?;
+    Ok(made)
+}
+
+/// The function that compares its argument with a variable, whose index is that under the binder.
+fn comparison(store: &mut Store, index: u32) -> Result<Id, MakeFault>
+    ensures ok { IfOk result (IsNode store.new) }
+    ensures kept { Extends store.old store.new }
+{
+    let boolean = store.make(Node::TBool)?;
+    let body = equation(store, index)?;
+    let made = store.make(Node::Lam(boolean, body))?;
+    Ok(made)
 }
 
 #[test]
