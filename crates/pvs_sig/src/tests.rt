@@ -1,7 +1,7 @@
 //! The public call, once, with its answers.
 //!
-//! The store and the signature are each borrowed by the function that uses them with `?` or with assertions: each way out of a function
-//! that owns them drops them, and that is what a proof of a test costs most for.
+//! Functions that borrow the store and the signature have the calls with `?` and the assertions: each early return of a function that
+//! owns one of them drops it, and each drop takes seconds to prove.
 
 use crate::{Class, Entry, EntryKind, FormalSig, Import, Signature};
 use pvs_terms::{Id, MakeFault, Name, Node, Store};

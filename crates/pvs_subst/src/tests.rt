@@ -1,7 +1,7 @@
 //! Each public call once with its answer, the limits, and parts that stay as they are.
 //!
-//! A test makes the store, and a function that borrows it has the calls with `?` and the assertions: each way out of a function that
-//! owns a store drops it, which is dear to prove.
+//! A test makes the store, and a function that borrows it has the calls with `?` and the assertions: each early return of a function
+//! that owns a store drops it, and each drop takes seconds to prove.
 
 ghost use Rattle.std.specs.Prelude.{◌≡◌, ◌<◌, length, IfOk};
 ghost use Rattle.pvs_terms.specs.Tree as tree;
