@@ -17,8 +17,6 @@ mod operands;
 mod parse;
 mod prefixes;
 mod proofs;
-#[cfg(test)]
-mod shown;
 mod start;
 mod tables;
 mod terminal;
@@ -35,6 +33,3 @@ pub use grammar::{first_tokens, one_expression, one_unit, prefix_begins};
 pub use nesting::Nesting;
 pub use parse::{one_answer, one_span_answer, parse_expr, parse_unit};
 pub use terminal::{Connective, Prefix, Terminal, TerminalKind};
-
-#[cfg(test)]
-mod tests;

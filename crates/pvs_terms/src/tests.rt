@@ -1,4 +1,7 @@
 //! Each public call once with its answer, and the limits.
+//!
+//! A test makes the store, and a function that borrows it has the calls with `?` and the assertions: each early return of a function
+//! that owns a store drops it, and each drop takes seconds to prove.
 
 ghost use Rattle.std.specs.Prelude.{◌≡◌, ◌<◌, length, IfOk};
 ghost use Rattle.pvs_terms.specs.Sorts.{IsTerm};
@@ -6,11 +9,16 @@ ghost use Rattle.pvs_terms.specs.Stored.{IsNode, tree_at, Extends};
 
 use crate::{Id, MakeFault, Node, RefKind, Store};
 use std::alloc::AllocError;
+use std::process::Abort;
 use std::test::Fail;
 
 #[test]
 fn equal_texts_have_equal_names(rt: HostRuntime) -> Result<(), Fail> {
     let mut store = Store::new(rt.alloc())?;
+    names_equal_texts_alike(&rt, &mut store)
+}
+
+fn names_equal_texts_alike(rt: &impl Abort, store: &mut Store) -> Result<(), Fail> {
     let set = store.name("set")?;
     let again = store.name("set")?;
     assert!(rt; set == again);
@@ -26,6 +34,10 @@ fn equal_texts_have_equal_names(rt: HostRuntime) -> Result<(), Fail> {
 #[test]
 fn equal_references_have_equal_numbers(rt: HostRuntime) -> Result<(), Fail> {
     let mut store = Store::new(rt.alloc())?;
+    numbers_equal_references_alike(&rt, &mut store)
+}
+
+fn numbers_equal_references_alike(rt: &impl Abort, store: &mut Store) -> Result<(), Fail> {
     let boolean = store.make(Node::TBool)?;
     let set = store.name("set")?;
     let entry = store.reference(RefKind::Inst(set, 3), &[boolean])?;
@@ -43,6 +55,10 @@ fn equal_references_have_equal_numbers(rt: HostRuntime) -> Result<(), Fail> {
 #[test]
 fn numbers_stand_for_what_was_made(rt: HostRuntime) -> Result<(), Fail> {
     let mut store = Store::new(rt.alloc())?;
+    numbers_what_was_made(&rt, &mut store)
+}
+
+fn numbers_what_was_made(rt: &impl Abort, store: &mut Store) -> Result<(), Fail> {
     let own = store.reference(RefKind::Own(7), &[])?;
     let constant = store.make(Node::Const(own))?;
     assert!(rt; store.is_local(constant));
@@ -77,22 +93,30 @@ fn doubled(store: &mut Store, formula: Id) -> Result<Id, MakeFault>
 #[test]
 fn a_chain_of_conjunctions_ends_at_its_size(rt: HostRuntime) -> Result<(), Fail> {
     let mut store = Store::new(rt.alloc())?;
+    doubles_to_the_largest_size(&rt, &mut store)
+}
+
+fn doubles_to_the_largest_size(rt: &impl Abort, store: &mut Store) -> Result<(), Fail> {
     let own = store.reference(RefKind::Own(0), &[])?;
     let mut formula = store.make(Node::Const(own))?;
     let mut size = 1;
     for _ in 0..18 {
         assert_eq!(rt; store.size(formula), size);
-        formula = doubled(&mut store, formula)?;
+        formula = doubled(store, formula)?;
         size = (2 * size + 2) % (1 << 40);
     }
     assert_eq!(rt; store.size(formula), 786_430);
-    assert!(rt; doubled(&mut store, formula) == Err(MakeFault::TooLarge));
+    assert!(rt; doubled(store, formula) == Err(MakeFault::TooLarge));
     Ok(())
 }
 
 #[test]
 fn a_chain_of_projections_ends_at_its_depth(rt: HostRuntime) -> Result<(), Fail> {
     let mut store = Store::new(rt.alloc())?;
+    projects_to_the_greatest_depth(&rt, &mut store)
+}
+
+fn projects_to_the_greatest_depth(rt: &impl Abort, store: &mut Store) -> Result<(), Fail> {
     let mut part = store.make(Node::Var(0))?;
     for _ in 1..1000 {
         part = store.make(Node::Snd(2, part))?;
@@ -105,6 +129,10 @@ fn a_chain_of_projections_ends_at_its_depth(rt: HostRuntime) -> Result<(), Fail>
 #[test]
 fn variables_end_at_their_index(rt: HostRuntime) -> Result<(), Fail> {
     let mut store = Store::new(rt.alloc())?;
+    makes_variables_to_the_last_index(&rt, &mut store)
+}
+
+fn makes_variables_to_the_last_index(rt: &impl Abort, store: &mut Store) -> Result<(), Fail> {
     let last = store.make(Node::Var(1_000_000))?;
     assert_eq!(rt; store.free_below(last), 1_000_001);
     assert!(rt; store.make(Node::Var(1_000_001)) == Err(MakeFault::TooLarge));

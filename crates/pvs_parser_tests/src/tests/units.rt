@@ -2,6 +2,7 @@
 
 use super::{Kind, shown, wrong};
 use pvs_base::MAX_TEXT;
+use std::alloc::{AllocError, Global};
 use std::test::Fail;
 
 /// Declarations, and neighbours of them.
@@ -193,14 +194,17 @@ fn lines(rt: HostRuntime) -> Result<(), Fail> {
     Ok(())
 }
 
+/// What is shown of a text of so many spaces.
+fn shown_spaces(alloc: Global, count: usize) -> Result<String, AllocError> {
+    let text = vec![in alloc; b' '; count]?;
+    shown(alloc, &text, Kind::Unit)
+}
+
 #[test]
 fn length_of_texts(rt: HostRuntime) -> Result<(), Fail> {
-    let alloc = rt.alloc();
-    let mut text = vec![in alloc; b' '; MAX_TEXT]?;
-    let found = shown(alloc, &text, Kind::Unit)?;
-    assert_eq!(rt; found.as_str(), "");
-    text.push(b' ')?;
-    let found = shown(alloc, &text, Kind::Unit)?;
-    assert_eq!(rt; found.as_str(), "TextTooLong@1:1");
+    for (count, want) in [(MAX_TEXT, ""), (MAX_TEXT + 1, "TextTooLong@1:1")] {
+        let found = shown_spaces(rt.alloc(), count)?;
+        assert_eq!(rt; found.as_str(), want);
+    }
     Ok(())
 }

@@ -1,7 +1,7 @@
 //! The limits of nesting, of lists and of calls.
 
 use super::shown_fault;
-use crate::{ParseFault, parse_unit};
+use pvs_parser::{ParseFault, parse_unit};
 use std::alloc::{AllocError, Global};
 use std::test::Fail;
 
@@ -425,13 +425,20 @@ fn nested_nots(alloc: Global, groups: u32) -> Result<Vec<u8>, AllocError> {
     Ok(text)
 }
 
+/// The answer to a formula of so many groups.
+fn answer_to_nots(alloc: Global, groups: u32) -> Result<&'static str, AllocError> {
+    let text = nested_nots(alloc, groups)?;
+    match parse_unit(alloc, &text) {
+        Ok(_) => Ok("ok"),
+        Err(ParseFault::At(_)) => Ok("fault"),
+        Err(ParseFault::Memory) => Ok("memory"),
+    }
+}
+
 /// The bound on calls is not one of the language: a text past it is a unit, for which memory runs out.
 #[test]
 fn nested_calls(rt: HostRuntime) -> Result<(), Fail> {
-    let alloc = rt.alloc();
-    let read = parse_unit(alloc, &nested_nots(alloc, 4)?);
-    assert!(rt; read.is_ok());
-    let read = parse_unit(alloc, &nested_nots(alloc, 5)?);
-    assert!(rt; matches!(read, Err(ParseFault::Memory)));
+    assert_eq!(rt; answer_to_nots(rt.alloc(), 4)?, "ok");
+    assert_eq!(rt; answer_to_nots(rt.alloc(), 5)?, "memory");
     Ok(())
 }

@@ -1,8 +1,9 @@
 //! Expressions and types.
 
 use super::{Kind, shown_expr, wrong};
-use crate::parse_expr;
 use pvs_base::Pos;
+use pvs_parser::parse_expr;
+use std::alloc::{AllocError, Global};
 use std::test::Fail;
 
 /// Terms and operators, each pair of them.
@@ -176,17 +177,26 @@ fn expressions(rt: HostRuntime) -> Result<(), Fail> {
 /// Three expressions in quotes.
 const QUOTES: &[u8] = b"\"if aa then b elsif c then d else e endif\" \"x =\nNOT (y)\" \"p q\"";
 
+/// Spans of the quotes, each with the place of its first byte, and their trees or first faults.
+const SPANS: [(u32, u32, Pos, &str); 3] = [
+    (1, 41, Pos { line: 3, col: 9 }, "(if@9 aa b (if@22 c d e))"),
+    (44, 55, Pos { line: 3, col: 52 }, "(= x (~@1 (paren@5 y)))"),
+    (58, 61, Pos { line: 4, col: 12 }, "Unexpected@4:14"),
+];
+
+fn shown_span(alloc: Global, start: u32, end: u32, pos: Pos) -> Result<String, AllocError> {
+    if start > end || end as usize > QUOTES.len() || pos.line > 99 || pos.col > 99 {
+        return Err(AllocError);
+    }
+    let read = parse_expr(alloc, QUOTES, start, end, pos);
+    shown_expr(alloc, QUOTES, true, &read)
+}
+
 #[test]
 fn spans_of_texts(rt: HostRuntime) -> Result<(), Fail> {
-    let alloc = rt.alloc();
-    let read = parse_expr(alloc, QUOTES, 1, 41, Pos { line: 3, col: 9 });
-    let found = shown_expr(alloc, QUOTES, true, &read)?;
-    assert_eq!(rt; found.as_str(), "(if@9 aa b (if@22 c d e))");
-    let read = parse_expr(alloc, QUOTES, 44, 55, Pos { line: 3, col: 52 });
-    let found = shown_expr(alloc, QUOTES, true, &read)?;
-    assert_eq!(rt; found.as_str(), "(= x (~@1 (paren@5 y)))");
-    let read = parse_expr(alloc, QUOTES, 58, 61, Pos { line: 4, col: 12 });
-    let found = shown_expr(alloc, QUOTES, true, &read)?;
-    assert_eq!(rt; found.as_str(), "Unexpected@4:14");
+    for (start, end, pos, want) in SPANS {
+        let found = shown_span(rt.alloc(), start, end, pos)?;
+        assert_eq!(rt; found.as_str(), want);
+    }
     Ok(())
 }

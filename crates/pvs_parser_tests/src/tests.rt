@@ -8,8 +8,8 @@ mod limits;
 mod units;
 
 use crate::shown::{self, Style};
-use crate::{ParseFault, parse_expr, parse_unit};
 use pvs_base::{Fault, MAX_TEXT, Pos, code_name};
+use pvs_parser::{ParseFault, parse_expr, parse_unit};
 use pvs_syntax::{Expr, Item, Unit};
 use std::alloc::{AllocError, Global};
 

@@ -1,6 +1,6 @@
 use Rattle.pvs_terms.specs.Sorts.{IsTerm}
 use Rattle.pvs_terms.specs.Stored.{IsNode, tree_at}
-use Rattle.pvs_terms.proofs.tests.a_chain_of_projections_ends_at_its_depth.Given as goal
+use Rattle.pvs_terms.proofs.tests.projects_to_the_greatest_depth.Given as goal
 
 abbrev pub invariant-loop : goal.invariant-loop
 invariant-loop _ l = IsNode l.store l.part × IsTerm (tree_at l.store l.part)
