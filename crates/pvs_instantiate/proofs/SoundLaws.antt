@@ -10,7 +10,7 @@ use Rattle.pvs_sig.specs.SignatureAt.{SignatureIn, AllIn}
 use Rattle.pvs_sig.specs.Development.{IsDevelopment}
 use Rattle.pvs_sig.proofs.SignatureAtLaws.{signature_in, signature_same, all_in}
 use Rattle.pvs_instantiate.specs.Standing.{Entries, entry_stamp, signatures, theories_after}
-use Rattle.pvs_instantiate.specs.KeptTrees.{KeepsTree}
+use Rattle.pvs_instantiate.specs.code.KeptTrees.{KeepsTree}
 use Rattle.pvs_instantiate.specs.Parts.{part_tree}
 use Rattle.pvs_instantiate.specs.InstancesView.{InstancesView, Leaves}
 use Rattle.pvs_instantiate.specs.Soundness.{IsValue, HasValues, AreStanding, IsSound}

@@ -7,8 +7,10 @@ ghost use Rattle.pvs_sig.specs.Development.{theory_named, IsSignatureOver};
 ghost use Rattle.pvs_sig.specs.Laws.{without};
 ghost use Rattle.pvs_instantiate.specs.InstancesView.{development, stamps, stamps_from_one};
 ghost use Rattle.pvs_instantiate.specs.Standing.{numbered};
-ghost use Rattle.pvs_instantiate.specs.Grown.{IsAlone, IsNewStamp, SameStamps, MayGrow, grown, with_formal, with_entry, with_import};
+ghost use Rattle.pvs_instantiate.specs.Grown.{IsAlone, IsNewStamp, SameStamps, other_stamps, MayGrow, grown, with_formal, with_entry, with_import};
+ghost use Rattle.pvs_instantiate.specs.code.Growing.{GrowthIn, with_growth};
 
+use crate::growth::Growth;
 use crate::instances::Instances;
 use crate::theories::Theory;
 use pvs_cache::Judgements;
@@ -65,6 +67,7 @@ impl<J: Judgements> Instances<J> {
         ensures none { IfNone result (theory_named (development self.old) (text_at self.old.store theory) ≡ None) }
         ensures rest { development self.new ≡ without (text_at self.old.store theory) (development self.old) }
         ensures gone { theory_named (development self.new) (text_at self.old.store theory) ≡ None }
+        ensures stamps { stamps self.new ≡ other_stamps (text_at self.old.store theory) self.old }
         ensures store { self.new.store ≡ self.old.store }
         ensures kept { self.new.kept ≡ self.old.kept }
     {
@@ -74,6 +77,24 @@ impl<J: Judgements> Instances<J> {
                 let Theory { signature, .. } = self.theories.remove(at);
                 Some(signature)
             }
+        }
+    }
+
+    /// Adds at the end of the theory of this name, which becomes the latest and keeps its stamp.
+    fn grow(&mut self, theory: Name, growth: Growth) -> Result<(), AllocError>
+        requires theory { IsName self.old.store theory }
+        requires within { GrowthIn self.old.store growth }
+        requires alone { IsAlone (text_at self.old.store theory) (development self.old) }
+        requires over { MayGrow (development self.old) (text_at self.old.store theory) (with_growth self.old.store growth) }
+        ensures ok { OnOk result (development self.new ≡ grown (development self.old) (text_at self.old.store theory) (with_growth self.old.store growth)) }
+        ensures err { OnErr result (development self.new ≡ development self.old) }
+        ensures stamps { SameStamps self.old self.new }
+        ensures store { self.new.store ≡ self.old.store }
+        ensures kept { self.new.kept ≡ self.old.kept }
+    {
+        match self.find(theory) {
+            None => unreachable!(),
+            Some(at) => self.theories.grow(at, growth),
         }
     }
 
@@ -90,10 +111,7 @@ impl<J: Judgements> Instances<J> {
         ensures store { self.new.store ≡ self.old.store }
         ensures kept { self.new.kept ≡ self.old.kept }
     {
-        match self.find(theory) {
-            None => unreachable!(),
-            Some(at) => self.theories.grow_formal(at, formal),
-        }
+        self.grow(theory, Growth::Formal(formal))
     }
 
     /// Adds an entry at the end of the theory of this name, which keeps its stamp. No other theory that
@@ -109,10 +127,7 @@ impl<J: Judgements> Instances<J> {
         ensures store { self.new.store ≡ self.old.store }
         ensures kept { self.new.kept ≡ self.old.kept }
     {
-        match self.find(theory) {
-            None => unreachable!(),
-            Some(at) => self.theories.grow_entry(at, entry),
-        }
+        self.grow(theory, Growth::Entry(entry))
     }
 
     /// Adds an importing at the end of the theory of this name, which keeps its stamp. No other theory that
@@ -128,9 +143,6 @@ impl<J: Judgements> Instances<J> {
         ensures store { self.new.store ≡ self.old.store }
         ensures kept { self.new.kept ≡ self.old.kept }
     {
-        match self.find(theory) {
-            None => unreachable!(),
-            Some(at) => self.theories.grow_import(at, import),
-        }
+        self.grow(theory, Growth::Import(import))
     }
 }

@@ -4,6 +4,7 @@
 
 mod changes;
 mod fault;
+mod growth;
 mod instances;
 mod parts;
 mod scope;

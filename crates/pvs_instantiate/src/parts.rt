@@ -12,7 +12,7 @@ ghost use Rattle.pvs_sig.specs.SignatureAt.{option_at, signature_at, entry_kind_
 ghost use Rattle.pvs_sig.specs.Development.{theory_named, MatchFormals};
 ghost use Rattle.pvs_instantiate.specs.InstancesView.{development, Leaves};
 ghost use Rattle.pvs_instantiate.specs.Parts.{part_tree, definition, formula, kind_from, instance_kind, IsRefFrom, IsConstant, IsFormula, GivesTree, GivesOption, PassesLimit};
-ghost use Rattle.pvs_instantiate.specs.KeptTrees.{KeepsTree, FindsTree};
+ghost use Rattle.pvs_instantiate.specs.code.KeptTrees.{KeepsTree, FindsTree};
 ghost use Rattle.pvs_instantiate.specs.declared.fault.InstFault.{InstFault};
 
 use crate::fault::InstFault;

@@ -1,0 +1,4 @@
+pub mod Changes
+pub mod KeptTrees
+pub mod Places
+pub mod Growing
