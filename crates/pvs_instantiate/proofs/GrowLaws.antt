@@ -50,7 +50,7 @@ some_kind f (Some x) k e =
     let at : f x ≡ k = cc in
     (x, refl, at)
 
-kinds_append : (xs ys : List Entry) (n : ℕ) (k : Kind) → option_map entry_kind (slice_get xs n) ≡ Some k → option_map entry_kind (slice_get (xs ++ ys) n) ≡ Some k
+pub kinds_append : (xs ys : List Entry) (n : ℕ) (k : Kind) → option_map entry_kind (slice_get xs n) ≡ Some k → option_map entry_kind (slice_get (xs ++ ys) n) ≡ Some k
 kinds_append xs ys n k e =
     let x = some_kind entry_kind (slice_get xs n) k e in
     ap (option_map entry_kind) (get_append xs ys n x.0 x.1) ∙ ap Some x.2

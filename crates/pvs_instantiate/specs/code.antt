@@ -2,3 +2,4 @@ pub mod Changes
 pub mod KeptTrees
 pub mod Places
 pub mod Growing
+pub mod Examples

@@ -13,3 +13,6 @@ mod theories;
 pub use fault::InstFault;
 pub use instances::Instances;
 pub use scope::Scope;
+
+#[cfg(test)]
+mod tests;
