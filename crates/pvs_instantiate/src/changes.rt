@@ -1,6 +1,6 @@
 //! Theories that come, go and grow.
 
-ghost use Rattle.std.specs.Prelude.{◌≡◌, ◌<◌, ◌-◌, ◌^◌, ℕ, [], ◌∷◌, ◌++◌, length, Some, None, IfOk, OnOk, OnErr, IfSome, IfNone};
+ghost use Rattle.std.specs.Prelude.{◌≡◌, ◌<◌, ◌+◌, ◌-◌, ◌^◌, ℕ, [], ◌∷◌, ◌++◌, length, Some, None, IfOk, OnOk, OnErr, IfSome, IfNone};
 ghost use Rattle.pvs_terms.specs.Stored.{IsName, text_at};
 ghost use Rattle.pvs_sig.specs.SignatureAt.{SignatureIn, FormalIn, EntryIn, ImportIn, signature_at, formal_sig_at, entry_at, import_at};
 ghost use Rattle.pvs_sig.specs.Development.{theory_named, IsSignatureOver};
@@ -17,6 +17,14 @@ use pvs_cache::Judgements;
 use pvs_sig::{Entry, FormalSig, Import, Signature};
 use pvs_terms::Name;
 use std::alloc::AllocError;
+
+/// The stamp of a theory that is added after this one was given.
+fn stamp_after(last: u64) -> u64
+    requires { last < 2 ^ 64 - 1 }
+    ensures { result ≡ last + 1 }
+{
+    last + 1
+}
 
 impl<J: Judgements> Instances<J> {
     /// Sees that a stamp is left: where the last one was given, all pairs are forgotten and the
@@ -51,7 +59,7 @@ impl<J: Judgements> Instances<J> {
         ensures store { self.new.store ≡ self.old.store }
     {
         self.leave_stamp();
-        let stamp = self.last_stamp + 1;
+        let stamp = stamp_after(self.last_stamp);
         let name = signature.name;
         self.theories.push(name, Theory { signature, stamp })?;
         self.last_stamp = stamp;
