@@ -1,6 +1,7 @@
 //! Theories that come, go and grow.
 
-ghost use Rattle.std.specs.Prelude.{◌≡◌, ◌<◌, ◌+◌, ◌-◌, ◌^◌, ℕ, [], ◌∷◌, ◌++◌, length, Some, None, IfOk, OnOk, OnErr, IfSome, IfNone};
+ghost use Rattle.std.specs.Prelude.{◌≡◌, ◌<◌, ◌+◌, ◌-◌, ◌^◌, ℕ, [], ◌∷◌, ◌++◌, length, slice_get, Some, None, IfOk, OnOk, OnErr, IfSome, IfNone};
+ghost use Rattle.std.specs.Map.{keys_of};
 ghost use Rattle.pvs_terms.specs.Stored.{IsName, text_at};
 ghost use Rattle.pvs_sig.specs.SignatureAt.{SignatureIn, FormalIn, EntryIn, ImportIn, signature_at, formal_sig_at, entry_at, import_at};
 ghost use Rattle.pvs_sig.specs.Development.{theory_named, IsSignatureOver};
@@ -66,6 +67,21 @@ impl<J: Judgements> Instances<J> {
         Ok(stamp)
     }
 
+    /// Takes out the theory of this name, which stands at this place.
+    fn take_out(&mut self, at: usize, theory: Name) -> Signature
+        requires at { slice_get (keys_of self.old.entries) at ≡ Some theory }
+        requires alone { IsAlone (text_at self.old.store theory) (development self.old) }
+        ensures found { SignatureIn self.new.store result × (theory_named (development self.old) (text_at self.old.store theory) ≡ Some (signature_at self.new.store result)) }
+        ensures rest { development self.new ≡ without (text_at self.old.store theory) (development self.old) }
+        ensures gone { theory_named (development self.new) (text_at self.old.store theory) ≡ None }
+        ensures stamps { stamps self.new ≡ other_stamps (text_at self.old.store theory) self.old }
+        ensures store { self.new.store ≡ self.old.store }
+        ensures kept { self.new.kept ≡ self.old.kept }
+    {
+        let Theory { signature, .. } = self.theories.remove(at);
+        signature
+    }
+
     /// Takes out the theory of this name, which no other theory that stands imports or mentions, and
     /// hands back its signature. `None` exactly where it does not stand. This takes no memory.
     pub fn remove(&mut self, theory: Name) -> Option<Signature>
@@ -79,12 +95,10 @@ impl<J: Judgements> Instances<J> {
         ensures store { self.new.store ≡ self.old.store }
         ensures kept { self.new.kept ≡ self.old.kept }
     {
+        self.soundness();
         match self.find(theory) {
             None => None,
-            Some(at) => {
-                let Theory { signature, .. } = self.theories.remove(at);
-                Some(signature)
-            }
+            Some(at) => Some(self.take_out(at, theory)),
         }
     }
 

@@ -87,12 +87,7 @@ fn make_refs<J: Judgements>(instances: &mut Instances<J>, boolean: Id) -> Result
 }
 
 /// The example, where the constant has this body and the lemma is FALSE.
-fn signature(
-    alloc: Global,
-    theory: Name,
-    trees: Trees,
-    body: Id,
-) -> Result<Signature, AllocError>
+fn signature(alloc: Global, theory: Name, trees: Trees, body: Id) -> Result<Signature, AllocError>
     ensures { IfOk result (λ x. IsExampleOf x theory trees.formal body trees.falsity) }
 {
     let formal = FormalSig {
@@ -144,11 +139,7 @@ fn add<J: Judgements>(
 }
 
 /// Adds a constant to the example.
-fn grow<J: Judgements>(
-    instances: &mut Instances<J>,
-    theory: Name,
-    trees: Trees,
-) -> Result<(), Fail>
+fn grow<J: Judgements>(instances: &mut Instances<J>, theory: Name, trees: Trees) -> Result<(), Fail>
     requires name { IsName instances.old.store theory }
     requires trees { AreExampleTrees instances.old.store trees.boolean trees.truth trees.falsity trees.formal }
     requires has { HasExample instances.old theory }

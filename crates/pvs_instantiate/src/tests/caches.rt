@@ -67,7 +67,10 @@ impl Forgetful {
     fn forget_at_random(&mut self)
         ensures { KeepsOnly self.old.pairs.pairs.items self.new.pairs.pairs.items }
     {
-        self.state = self.state.wrapping_mul(6364136223846793005).wrapping_add(1442695040888963407);
+        self.state = self
+            .state
+            .wrapping_mul(6364136223846793005)
+            .wrapping_add(1442695040888963407);
         if self.state >> 63 == 0 {
             self.pairs.forget();
         }
