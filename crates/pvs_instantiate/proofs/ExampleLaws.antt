@@ -15,6 +15,7 @@ use Rattle.pvs_sig.specs.References.{EachRef, KindEach}
 use Rattle.pvs_sig.specs.Laws.{without, Avoids}
 use Rattle.pvs_sig.specs.Development.{Development, theory_named, IsSignatureOver, IsTreeOver, IsKindOver, HasSort, MatchFormals, IsBefore, seen_by, In}
 use Rattle.pvs_instantiate.specs.InstancesView.{InstancesView, development, Leaves}
+use Rattle.pvs_instantiate.specs.Visible.{HasNoImports, LacksImports}
 use Rattle.pvs_instantiate.specs.Grown.{IsAlone, MayGrow, MayBecome, grown, become, with_entry}
 use Rattle.pvs_instantiate.specs.Parts.{IsRefBy, IsRefFrom, IsConstant, IsFormula, kind_by, kind_from}
 use Rattle.pvs_instantiate.specs.code.Examples.{IsSimple, IsSimpleKind, AreExampleTrees, AreExampleRefs, IsExampleOf, IsExample, HasExample}
@@ -171,6 +172,9 @@ example_stands v s th d h = record { signature = s; alone = d; is = h }
 module _ (v : InstancesView) (th : ℕ) (h : HasExample v th) where
   example_named : theory_named (development v) (text_at v.store th) ≡ Some h.signature
   example_named = subst (λ d. theory_named d (text_at v.store th) ≡ Some h.signature) (sym h.alone) (subst (λ t. theory_named (h.signature ∷ []) t ≡ Some h.signature) h.is.name (itself h.signature []))
+
+  pub example_lacks : HasNoImports (development v) (text_at v.store th)
+  example_lacks = subst LacksImports (sym example_named) h.is.imports
 
   pub example_removed : without (text_at v.store th) (development v) ≡ []
   example_removed = ap (without (text_at v.store th)) h.alone ∙ ap (λ b. cond b [] (h.signature ∷ [])) (text_itself h.signature.name (text_at v.store th) h.is.name)

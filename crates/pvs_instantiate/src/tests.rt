@@ -251,3 +251,60 @@ fn kept_trees_are_found(rt: HostRuntime) -> Result<(), Fail> {
     assert!(rt; instances.cache.found == 12);
     Ok(())
 }
+
+/// The example alone.
+fn example_alone(alloc: Global) -> Result<(Instances<NoCache>, Name), Fail>
+    ensures name { IfOk result (λ x. IsName x.0.store x.1) }
+    ensures has { IfOk result (λ x. HasExample x.0 x.1) }
+{
+    let (mut instances, trees, refs) = begin(alloc, NoCache)?;
+    add(&mut instances, refs.theory, trees, trees.truth)?;
+    Ok((instances, refs.theory))
+}
+
+/// Whether no instance is visible at the end of the example.
+fn sees_nothing(instances: &mut Instances<NoCache>, theory: Name) -> Result<bool, InstFault>
+    requires name { IsName instances.old.store theory }
+    requires has { HasExample instances.old theory }
+{
+    let scope = instances.scope_of(theory, 2)?;
+    Ok(scope.place == 2 && scope.instances.is_empty())
+}
+
+#[test]
+fn a_theory_without_importings_sees_no_instances(rt: HostRuntime) -> Result<(), Fail> {
+    let (mut instances, theory) = example_alone(rt.alloc())?;
+    assert!(rt; instances.signature(theory).is_some());
+    assert!(rt; sees_nothing(&mut instances, theory)?);
+    Ok(())
+}
+
+fn lifted<J: Judgements>(instances: &mut Instances<J>) -> Result<Node, Fail> {
+    let variable = instances.make(Node::Var(0))?;
+    let made = instances.lift(variable, 2, 0)?;
+    Ok(instances.store().view(made))
+}
+
+fn substituted<J: Judgements>(instances: &mut Instances<J>) -> Result<Node, Fail> {
+    let variable = instances.make(Node::Var(0))?;
+    let truth = instances.make(Node::True)?;
+    let made = instances.put_in(variable, truth)?;
+    Ok(instances.store().view(made))
+}
+
+fn instantiated<J: Judgements>(instances: &mut Instances<J>) -> Result<Node, Fail> {
+    let theory = instances.name("groups")?;
+    let boolean = instances.make(Node::TBool)?;
+    let made = instances.instantiate_node(boolean, theory, &[])?;
+    instances.soundness();
+    Ok(instances.store().view(made))
+}
+
+#[test]
+fn trees_are_made_in_the_store(rt: HostRuntime) -> Result<(), Fail> {
+    let mut instances = Instances::new(rt.alloc(), NoCache)?;
+    assert!(rt; lifted(&mut instances)? == Node::Var(2));
+    assert!(rt; substituted(&mut instances)? == Node::True);
+    assert!(rt; instantiated(&mut instances)? == Node::TBool);
+    Ok(())
+}
