@@ -1,7 +1,7 @@
 -- The theory of the tests may stand, and its references are there.
-use Rattle.std.proofs.Common.{◌≡◌, ◌<◌, inl, inr, ◌⊎◌, ℕ, zero, suc, Bool, cond, None, Some, Option, List, [], ◌∷◌, ◌++◌, length, map, slice_get, false, true≢false, refl, sym, ap, ap₂, ◌∙◌, subst, arith}
+use Rattle.std.proofs.Common.{◌≡◌, ◌<◌, inl, inr, ℕ, zero, suc, cond, None, Some, Option, List, [], ◌∷◌, length, map, slice_get, false, true≢false, refl, sym, ap, ap₂, ◌∙◌, subst, arith}
 use Rattle.std.specs.Prelude.{option_map, IsSome, bytes_eq}
-use Rattle.pvs_terms.specs.Tree.{Text, Tree, Leaf, Formal, Inst, Ref, TBool, TName, True, False, none, more}
+use Rattle.pvs_terms.specs.Tree.{Text, Tree, Formal, Inst, TBool, TName, True, False, none, more}
 use Rattle.pvs_terms.specs.declared.shape.Plain.TheVariants.{No}
 use Rattle.pvs_terms.specs.declared.shape.Sort.{Sort}
 use Rattle.pvs_terms.specs.declared.shape.Sort.TheVariants.{OfType, OfTerm}
@@ -9,7 +9,7 @@ use Rattle.pvs_terms.specs.Stored.{Stored, Extends, Stands, StandsRef, IsName, I
 use Rattle.pvs_terms.proofs.StoredLaws.{extends_trans}
 use Rattle.pvs_sig.specs.declared.signature.Class.TheVariants.{Lemma}
 use Rattle.pvs_sig.specs.declared.signature.Signature as numbers
-use Rattle.pvs_sig.specs.Signature.{Signature, FormalSig, Entry, Import, Kind, TypeSig, ConstSig, VarSig, FormulaSig, entry_kind, formal_kind, kind_at, kind_in, formals_in, instantiate_found}
+use Rattle.pvs_sig.specs.Signature.{Signature, Entry, Kind, TypeSig, ConstSig, VarSig, FormulaSig, entry_kind, formal_kind, kind_at, kind_in, formals_in, instantiate_found}
 use Rattle.pvs_sig.specs.SignatureAt.{AllIn, signature_at, formal_sig_at, entry_at, import_at, SignatureIn, FormalIn, EntryIn, ImportIn}
 use Rattle.pvs_sig.specs.References.{EachRef, KindEach}
 use Rattle.pvs_sig.specs.Laws.{without, Avoids}

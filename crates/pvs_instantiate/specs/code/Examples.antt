@@ -1,5 +1,5 @@
 -- The theory of the tests: a type formal, a constant of that type with a body, and a lemma.
-use Rattle.std.specs.Prelude.{◌≡◌, ◌⊎◌, ℕ, false, Some, None, List, [], ◌∷◌}
+use Rattle.std.specs.Prelude.{◌≡◌, ◌⊎◌, ℕ, false, Some, None, [], ◌∷◌}
 use Rattle.pvs_terms.specs.Tree.{Text, Tree, Leaf, Formal, Inst, TBool, TName, True, False, none, more}
 use Rattle.pvs_terms.specs.Sorts.{plain_sort}
 use Rattle.pvs_terms.specs.declared.shape.Plain.{Plain}

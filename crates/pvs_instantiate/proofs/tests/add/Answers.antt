@@ -1,4 +1,4 @@
-use Rattle.std.proofs.Common.{◌≡◌, [], ◌∷◌, sym, ap, ◌∙◌, subst}
+use Rattle.std.proofs.Common.{◌∷◌, sym, ap, ◌∙◌, subst}
 use Rattle.pvs_terms.specs.Stored.{text_at}
 use Rattle.pvs_sig.specs.SignatureAt.{signature_at}
 use Rattle.pvs_sig.specs.Development.{theory_named}

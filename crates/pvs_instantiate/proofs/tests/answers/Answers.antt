@@ -1,5 +1,5 @@
 use Rattle.std.proofs.Common.{inl, refl}
-use Rattle.pvs_terms.specs.declared.shape.Plain.TheVariants.{Yes, No}
+use Rattle.pvs_terms.specs.declared.shape.Plain.TheVariants.{Yes}
 use Rattle.pvs_instantiate.proofs.tests.answers.Goals as goal
 
 pub is_answered-requires-clause-simple : goal.is_answered-requires-clause-simple

@@ -1,4 +1,3 @@
-use Rattle.pvs_terms.proofs.StoredLaws.{extends_trans}
 use Rattle.pvs_instantiate.proofs.ExampleLaws.{refs_later, example_later, leaves_then, example_over, example_constant, example_lemma}
 use Rattle.pvs_instantiate.proofs.tests.ask.Goals as goal
 

@@ -1,4 +1,3 @@
-use Rattle.std.proofs.Common.{◌∙◌}
 use Rattle.pvs_terms.proofs.StoredLaws.{extends_trans}
 use Rattle.pvs_instantiate.proofs.ExampleLaws.{trees_later, trees_kept}
 use Rattle.pvs_instantiate.proofs.tests.is_answered.Goals as goal

@@ -1,4 +1,4 @@
-use Rattle.std.proofs.Common.{◌≡◌, ◌+◌, [], ◌∷◌, ◌++◌, map, refl, sym, ap, ap₂, ◌∙◌, subst, arith}
+use Rattle.std.proofs.Common.{◌≡◌, [], ◌∷◌, ◌++◌, map, sym, ap, ap₂, ◌∙◌, subst, arith}
 use Rattle.pvs_terms.specs.Stored.{text_at}
 use Rattle.pvs_sig.specs.SignatureAt.{signature_at, SignatureIn}
 use Rattle.pvs_sig.specs.Development.{theory_named, IsSignatureOver}

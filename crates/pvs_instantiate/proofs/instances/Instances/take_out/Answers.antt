@@ -1,5 +1,4 @@
-use Rattle.std.proofs.Common.{sym, subst, ap}
-use Rattle.std.specs.Map.{keys_of}
+use Rattle.std.proofs.Common.{ap}
 use Rattle.std.proofs.Common.{length, arith}
 use Rattle.pvs_instantiate.specs.InstancesView.{InstancesView}
 use Rattle.pvs_instantiate.proofs.ListLaws.{key_within}
