@@ -1,5 +1,7 @@
 -- What stands after a theory is added, is taken out, or grows.
 use Rattle.std.proofs.Common.{◌≡◌, ◌≤◌, ◌<◌, ◌+◌, inl, inr, ◌⊎◌, ℕ, zero, suc, List, [], ◌∷◌, ◌++◌, None, Some, length, slice_get, remove, refl, sym, ap, ◌∙◌, subst, map, Contains, arith}
+use Rattle.std.specs.Prelude.{false, true, not, bytes_eq, filter, option_map}
+use Rattle.std.proofs.lemmas.Option.{slice_get-map}
 use Rattle.pvs_terms.specs.Tree.{Text}
 use Rattle.pvs_terms.specs.Stored.{Stored, text_at}
 use Rattle.pvs_cache.specs.declared.key.JudgeKey.{JudgeKey}
@@ -14,8 +16,8 @@ use Rattle.pvs_instantiate.specs.Standing.{Entries, StampsDiffer, entry_signatur
 use Rattle.pvs_instantiate.specs.InstancesView.{InstancesView, development, stamps}
 use Rattle.pvs_instantiate.specs.Soundness.{IsValue, HasValues, AreStanding, IsSound}
 use Rattle.pvs_instantiate.specs.Grown.{IsAlone, IsNewStamp}
-use Rattle.pvs_instantiate.proofs.ListLaws.{all_append, all_remove, all_get}
-use Rattle.pvs_instantiate.proofs.TheoryLaws.{after_append, without_at}
+use Rattle.pvs_instantiate.proofs.ListLaws.{all_append, all_remove, all_get, all_remap, filter_removed}
+use Rattle.pvs_instantiate.proofs.TheoryLaws.{text_itself, after_append, without_at, others_at}
 use Rattle.pvs_instantiate.proofs.NumberedLaws.{numbered_named, numbered_stored, numbered_signatures, numbered_below, numbered_differ}
 use Rattle.pvs_instantiate.proofs.LookupLaws.{signature_found}
 
@@ -60,6 +62,15 @@ signatures_append s es e = ap (theories_after []) (map_append (entry_signature s
 
 pub signatures_removed : (s : Stored) (es : Entries) (i : ℕ) (e : ℕ × Theory) → AreStanding s es → slice_get es i ≡ Some e → theories_after [] (signatures s (remove es i)) ≡ without (text_at s e.1.signature.name) (theories_after [] (signatures s es))
 signatures_removed s es i e h k = ap (theories_after []) (map_removed (entry_signature s) es i) ∙ sym (without_at [] (signatures s es) i (signature_at s e.1.signature) h.over (signature_found s es i e k))
+
+pub stamps_removed : (s : Stored) (es : Entries) (i : ℕ) (e : ℕ × Theory) → AreStanding s es → slice_get es i ≡ Some e → filter (λ x. not (bytes_eq x.0 (text_at s e.1.signature.name))) (map (entry_stamp s) es) ≡ map (entry_stamp s) (remove es i)
+stamps_removed s es i e h k =
+    let th = text_at s e.1.signature.name in
+    let others = subst (AllIn (λ y. bytes_eq y.name th ≡ false)) (sym (map_removed (entry_signature s) es i)) (others_at [] (signatures s es) i (signature_at s e.1.signature) h.over (signature_found s es i e k)) in
+    let passes = all_remap (λ y. bytes_eq y.name th ≡ false) (λ x. not (bytes_eq x.0 th) ≡ true) (entry_signature s) (entry_stamp s) (λ x q. ap not q) (remove es i) others in
+    filter_removed (λ x. not (bytes_eq x.0 th)) (map (entry_stamp s) es) i (entry_stamp s e) (slice_get-map (entry_stamp s) es i ∙ ap (option_map (entry_stamp s)) k) (ap not (text_itself th th refl))
+    (subst (AllIn (λ x. not (bytes_eq x.0 th) ≡ true)) (map_removed (entry_stamp s) es i) passes)
+    ∙ sym (map_removed (entry_stamp s) es i)
 
 pub in_append : {A : Type 0} (xs : List A) (y x : A) → In x (xs ++ y ∷ []) → In x xs ⊎ (x ≡ y)
 in_append [] y x (inl e) = inr e

@@ -19,8 +19,12 @@ use Rattle.pvs_instantiate.specs.Standing.{Entries, StampsDiffer, entry_signatur
 use Rattle.pvs_instantiate.specs.InstancesView.{InstancesView, development, stamps}
 use Rattle.pvs_instantiate.specs.Parts.{part_tree}
 use Rattle.pvs_instantiate.specs.Soundness.{IsValue, HasValues, IsSound}
-use Rattle.pvs_instantiate.specs.Grown.{IsAlone, MayGrow, MayBecome, grown, become, with_formal, with_entry, with_import, SameStamps, IsSet}
-use Rattle.pvs_instantiate.specs.Changes.{AddsFormal, AddsEntry, AddsImport, IsSameTheory}
+use Rattle.pvs_instantiate.specs.Grown.{IsAlone, MayGrow, MayBecome, grown, become, with_formal, with_entry, with_import, SameStamps}
+use Rattle.pvs_instantiate.specs.code.Places.{IsSet}
+use Rattle.pvs_instantiate.specs.code.Growing.{GrowthIn, with_growth, Adds}
+use Rattle.pvs_instantiate.specs.declared.growth.Growth.{Growth}
+use Rattle.pvs_instantiate.specs.declared.growth.Growth.TheVariants as growth
+use Rattle.pvs_instantiate.specs.code.Changes.{AddsFormal, AddsEntry, AddsImport, IsSameTheory}
 use Rattle.pvs_instantiate.proofs.ListLaws.{all_append, all_remove, all_get}
 use Rattle.pvs_instantiate.proofs.TheoryLaws.{without_none}
 use Rattle.pvs_instantiate.proofs.LookupLaws.{theory_found}
@@ -46,12 +50,12 @@ some_kind f (Some x) k e =
     let at : f x ≡ k = cc in
     (x, refl, at)
 
-kinds_append : (xs ys : List Entry) (n : ℕ) (k : Kind) → option_map entry_kind (slice_get xs n) ≡ Some k → option_map entry_kind (slice_get (xs ++ ys) n) ≡ Some k
+pub kinds_append : (xs ys : List Entry) (n : ℕ) (k : Kind) → option_map entry_kind (slice_get xs n) ≡ Some k → option_map entry_kind (slice_get (xs ++ ys) n) ≡ Some k
 kinds_append xs ys n k e =
     let x = some_kind entry_kind (slice_get xs n) k e in
     ap (option_map entry_kind) (get_append xs ys n x.0 x.1) ∙ ap Some x.2
 
-pub adds_formal : (s : Stored) (x : numbers_formal.FormalSig) (t u : Theory) → FormalIn s x → SignatureIn s t.signature → AddsFormal x t u → Becomes s (with_formal (formal_sig_at s x)) t u
+adds_formal : (s : Stored) (x : numbers_formal.FormalSig) (t u : Theory) → FormalIn s x → SignatureIn s t.signature → AddsFormal x t u → Becomes s (with_formal (formal_sig_at s x)) t u
 adds_formal s x t u i h a =
     let formals = ap (map (formal_sig_at s)) a.formals ∙ map_append (formal_sig_at s) t.signature.formals.items (x ∷ []) in
     let entries = ap (map (entry_at s)) a.entries in
@@ -68,7 +72,7 @@ adds_formal s x t u i h a =
       kinds = λ n k e. ap (λ l. option_map entry_kind (slice_get l n)) entries ∙ e;
     }
 
-pub adds_entry : (s : Stored) (x : numbers_entry.Entry) (t u : Theory) → EntryIn s x → SignatureIn s t.signature → AddsEntry x t u → Becomes s (with_entry (entry_at s x)) t u
+adds_entry : (s : Stored) (x : numbers_entry.Entry) (t u : Theory) → EntryIn s x → SignatureIn s t.signature → AddsEntry x t u → Becomes s (with_entry (entry_at s x)) t u
 adds_entry s x t u i h a =
     let entries = ap (map (entry_at s)) a.entries ∙ map_append (entry_at s) t.signature.entries.items (x ∷ []) in
     record {
@@ -84,7 +88,7 @@ adds_entry s x t u i h a =
       kinds = λ n k e. ap (λ l. option_map entry_kind (slice_get l n)) entries ∙ kinds_append (map (entry_at s) t.signature.entries.items) (entry_at s x ∷ []) n k e;
     }
 
-pub adds_import : (s : Stored) (x : numbers_import.Import) (t u : Theory) → ImportIn s x → SignatureIn s t.signature → AddsImport x t u → Becomes s (with_import (import_at s x)) t u
+adds_import : (s : Stored) (x : numbers_import.Import) (t u : Theory) → ImportIn s x → SignatureIn s t.signature → AddsImport x t u → Becomes s (with_import (import_at s x)) t u
 adds_import s x t u i h a =
     let imports = ap (map (import_at s)) a.imports ∙ map_append (import_at s) t.signature.imports.items (x ∷ []) in
     let entries = ap (map (entry_at s)) a.entries in
@@ -100,6 +104,11 @@ adds_import s x t u i h a =
       stamp = a.stamp;
       kinds = λ n k e. ap (λ l. option_map entry_kind (slice_get l n)) entries ∙ e;
     }
+
+pub adds : (s : Stored) (g : Growth) (t u : Theory) → GrowthIn s g → SignatureIn s t.signature → Adds g t u → Becomes s (with_growth s g) t u
+adds s (growth.Formal x) t u i h a = adds_formal s x t u i h a
+adds s (growth.Entry x) t u i h a = adds_entry s x t u i h a
+adds s (growth.Import x) t u i h a = adds_import s x t u i h a
 
 pub same_theory : (s : Stored) (t u : Theory) → SignatureIn s t.signature → IsSameTheory t u → Becomes s (λ x. x) t u
 same_theory s t u h a =

@@ -9,3 +9,4 @@ pub mod PartLaws
 pub mod GrowLaws
 pub mod RestLaws
 pub mod VisibleLaws
+pub mod ExampleLaws

@@ -1,6 +1,6 @@
 -- What holds of each item of a list, after the list is changed.
-use Rattle.std.proofs.Common.{◌≡◌, ℕ, zero, suc, ◌<◌, ◌-◌, List, [], ◌∷◌, ◌++◌, Some, length, slice_get, refl, ap, ap₂, ◌∙◌, subst, map, remove, insert, arith}
-use Rattle.std.specs.Prelude.{Result, Ok, Err, OnErr}
+use Rattle.std.proofs.Common.{◌≡◌, ℕ, zero, suc, ◌<◌, ◌-◌, Bool, true, false, cond, List, [], ◌∷◌, ◌++◌, Some, length, slice_get, refl, ap, ap₂, ◌∙◌, subst, map, remove, insert, arith}
+use Rattle.std.specs.Prelude.{Result, Ok, Err, OnErr, filter}
 use Rattle.std.specs.Map.{keys_of, values_of}
 use Rattle.std.specs.Option.{option_map_or}
 use Rattle.indexmap.specs.IndexMap.{move_index, set_value_at}
@@ -27,6 +27,23 @@ module _ {A : Type 0} (P : A → Type 0) where
 pub all_map : {A B : Type 0} (P : A → Type 0) (Q : B → Type 0) (f : A → B) → ((x : A) → P x → Q (f x)) → (xs : List A) → AllIn P xs → AllIn Q (map f xs)
 all_map P Q f g [] h = tt
 all_map P Q f g (x ∷ xs) h = (g x h.0, all_map P Q f g xs h.1)
+
+-- what holds of the images by f, holds so of those by g
+pub all_remap : {A B C : Type 0} (P : B → Type 0) (Q : C → Type 0) (f : A → B) (g : A → C) → ((x : A) → P (f x) → Q (g x)) → (xs : List A) → AllIn P (map f xs) → AllIn Q (map g xs)
+all_remap P Q f g k [] h = tt
+all_remap P Q f g k (x ∷ xs) h = (k x h.0, all_remap P Q f g k xs h.1)
+
+-- a test that each item passes, and one that each passes but the item at one place
+pub filter_all : {A : Type 0} (p : A → Bool) (xs : List A) → AllIn (λ x. p x ≡ true) xs → filter p xs ≡ xs
+filter_all p [] h = refl
+filter_all p (x ∷ xs) h = ap (λ b. cond b (x ∷ filter p xs) (filter p xs)) h.0 ∙ ap (λ l. x ∷ l) (filter_all p xs h.1)
+
+pub filter_removed : {A : Type 0} (p : A → Bool) (xs : List A) (i : ℕ) (x : A) → slice_get xs i ≡ Some x → p x ≡ false → AllIn (λ y. p y ≡ true) (remove xs i) → filter p xs ≡ remove xs i
+filter_removed p [] i x e f h = cc
+filter_removed p (y ∷ ys) zero x e f h =
+    let at : y ≡ x = cc in
+    ap (λ b. cond b (y ∷ filter p ys) (filter p ys)) (ap p at ∙ f) ∙ filter_all p ys h
+filter_removed p (y ∷ ys) (suc i) x e f h = ap (λ b. cond b (y ∷ filter p ys) (filter p ys)) h.0 ∙ ap (λ l. y ∷ l) (filter_removed p ys i x e f h.1)
 
 suc_removed : {A : Type 0} (xs : List A) (i : ℕ) (x : A) → slice_get xs i ≡ Some x → suc (length (remove xs i)) ≡ length xs
 suc_removed [] i x e = cc

@@ -4,7 +4,7 @@ use Rattle.std.specs.Map.{values_of}
 use Rattle.indexmap.specs.IndexMap.{set_value_at}
 use Rattle.pvs_instantiate.specs.declared.theories.Theory.{Theory}
 use Rattle.pvs_instantiate.specs.Standing.{Entries}
-use Rattle.pvs_instantiate.specs.Grown.{IsMoved, IsSet}
+use Rattle.pvs_instantiate.specs.code.Places.{IsMoved, IsSet}
 use Rattle.pvs_instantiate.proofs.ListLaws.{set_found, set_then, set_removed}
 
 pub is_moved : (R : Theory → Theory → Type 0) (es new : Entries) (at : ℕ) (v w : Theory) → slice_get (values_of es) at ≡ Some v → R v w → ((e : ℕ × Theory) → slice_get (set_value_at es at w) at ≡ Some e → new ≡ remove (set_value_at es at w) at ++ e ∷ []) → IsMoved R es new at

@@ -19,7 +19,7 @@ use Rattle.pvs_sig.proofs.DevelopmentLaws.{theory_stands}
 use Rattle.pvs_instantiate.specs.declared.theories.Theory.{Theory}
 use Rattle.pvs_instantiate.specs.Standing.{Entries}
 use Rattle.pvs_instantiate.specs.Parts.{part_tree, kind_by, instance_kind, IsRefBy, GivesOption, PassesLimit}
-use Rattle.pvs_instantiate.specs.KeptTrees.{FindsTree, KeepsTree}
+use Rattle.pvs_instantiate.specs.code.KeptTrees.{FindsTree, KeepsTree}
 use Rattle.pvs_instantiate.specs.InstancesView.{InstancesView, development, Leaves}
 use Rattle.pvs_instantiate.specs.Soundness.{IsValue, HasValues, IsSound}
 use Rattle.pvs_instantiate.proofs.ListLaws.{all_get}

@@ -1,5 +1,5 @@
 -- What stands as the store grows, and as pairs are kept and forgotten.
-use Rattle.std.proofs.Common.{◌≡◌, ◌⊎◌, inl, inr, ℕ, [], ◌∷◌, Some, refl, sym, ap, ap₂, subst, ◌∙◌, map, Contains}
+use Rattle.std.proofs.Common.{◌≡◌, ◌⊎◌, inl, inr, ℕ, Result, Ok, Err, IfOk, OnErr, [], ◌∷◌, Some, refl, sym, ap, ap₂, subst, ◌∙◌, map, Contains}
 use Rattle.pvs_terms.specs.Tree.{Tree, Inst}
 use Rattle.pvs_terms.specs.Stored.{Stored, Extends, Stands}
 use Rattle.pvs_cache.specs.Kept.{Pairs, KeepsOnly, AddsOnly}
@@ -10,7 +10,7 @@ use Rattle.pvs_sig.specs.SignatureAt.{SignatureIn, AllIn}
 use Rattle.pvs_sig.specs.Development.{IsDevelopment}
 use Rattle.pvs_sig.proofs.SignatureAtLaws.{signature_in, signature_same, all_in}
 use Rattle.pvs_instantiate.specs.Standing.{Entries, entry_stamp, signatures, theories_after}
-use Rattle.pvs_instantiate.specs.KeptTrees.{KeepsTree}
+use Rattle.pvs_instantiate.specs.code.KeptTrees.{KeepsTree}
 use Rattle.pvs_instantiate.specs.Parts.{part_tree}
 use Rattle.pvs_instantiate.specs.InstancesView.{InstancesView, Leaves}
 use Rattle.pvs_instantiate.specs.Soundness.{IsValue, HasValues, AreStanding, IsSound}
@@ -71,9 +71,13 @@ is_later v t h later = record {
 }
 
 -- what a cache keeps after it was asked and given a tree
-pub kept_then : (s : Stored) (old mid new : Pairs) (key : JudgeKey) (i : ℕ) (t : Tree) → KeepsOnly old mid → AddsOnly mid new (key, i) → Stands s t i → KeepsTree s old new key t
+kept_then : (s : Stored) (old mid new : Pairs) (key : JudgeKey) (i : ℕ) (t : Tree) → KeepsOnly old mid → AddsOnly mid new (key, i) → Stands s t i → KeepsTree s old new key t
 kept_then s old mid new key i t h k st = λ p c. by p (k p c)
   where
     by : (p : JudgeKey × ℕ) → Contains mid p ⊎ (p ≡ (key, i)) → Contains old p ⊎ ((p.0 ≡ key) × Stands s t p.1)
     by p (inl x) = inl (h p x)
     by p (inr e) = inr (ap (λ z. z.0) e, subst (Stands s t) (sym (ap (λ z. z.1) e)) st)
+
+pub kept_or_refused : (s : Stored) (old mid new : Pairs) (key : JudgeKey) (t : Tree) {E : Type 0} (r : Result ℕ E) → KeepsOnly old mid → IfOk r (Stands s t) → IfOk r (λ i. AddsOnly mid new (key, i)) → OnErr r (new ≡ mid) → KeepsTree s old new key t
+kept_or_refused s old mid new key t (Ok i) h st k e = kept_then s old mid new key i t h k st
+kept_or_refused s old mid new key t (Err x) h st k e = λ p c. inl (h p (subst (λ l. Contains l p) e c))

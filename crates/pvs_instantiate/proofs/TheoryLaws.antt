@@ -1,5 +1,5 @@
 -- Look-ups of theories by name in the list of those that stand.
-use Rattle.std.proofs.Common.{◌≡◌, ℕ, zero, suc, Bool, true, false, cond, Option, Some, None, List, [], ◌∷◌, ◌++◌, slice_get, remove, refl, sym, ap, subst, ◌∙◌}
+use Rattle.std.proofs.Common.{◌≡◌, ℕ, zero, suc, Bool, true, false, cond, Option, Some, None, List, [], ◌∷◌, ◌++◌, slice_get, remove, refl, sym, ap, subst, ◌∙◌, true≢false}
 use Rattle.std.specs.Prelude.{bytes_eq, IsSome}
 use Rattle.std.proofs.lemmas.Slice.Eq.{bytes_eq-Decides}
 use Rattle.pvs_terms.specs.Tree.{Text}
@@ -9,6 +9,7 @@ use Rattle.pvs_sig.specs.Development.{Development, theory_named, IsDevelopment}
 use Rattle.pvs_sig.specs.Laws.{without}
 use Rattle.pvs_sig.proofs.DeclaredLaws.{same_look_up}
 use Rattle.pvs_instantiate.specs.Standing.{theories_after}
+use Rattle.pvs_instantiate.proofs.ListLaws.{all_get}
 
 same_text : (a b : Text) → bytes_eq a b ≡ true → a ≡ b
 same_text a b h = (bytes_eq-Decides a b).0 h
@@ -33,7 +34,7 @@ still_named : (d : Development) (xs : List Signature) (th : Text) (s : Signature
 still_named d [] th s h e = e
 still_named d (x ∷ xs) th s h e = still_named (x ∷ d) xs th s h (same_look_up x d th (below_stands (x ∷ d) xs h).0 (subst IsSome (sym e) refl) ∙ e)
 
-itself : (x : Signature) (d : Development) → theory_named (x ∷ d) x.name ≡ Some x
+pub itself : (x : Signature) (d : Development) → theory_named (x ∷ d) x.name ≡ Some x
 itself x d = ap (λ b. cond b (Some x) (theory_named d x.name)) (text_itself x.name x.name refl)
 
 -- a theory of the list is found by its name
@@ -81,3 +82,27 @@ without_none th (s ∷ d) h = by (bytes_eq s.name th) refl (without_none th d h.
     by : (b : Bool) → bytes_eq s.name th ≡ b → theory_named (without th d) th ≡ None → theory_named (cond b d (s ∷ without th d)) th ≡ None
     by true e ih = ap (theory_named d) (sym (same_text s.name th e)) ∙ h.0
     by false e ih = ap (λ b. cond b (Some s) (theory_named (without th d) th)) e ∙ ih
+
+-- the others have other names
+pub others_at : (d : Development) (xs : List Signature) (i : ℕ) (s : Signature) → IsDevelopment (theories_after d xs) → slice_get xs i ≡ Some s → AllIn (λ y. bytes_eq y.name s.name ≡ false) (remove xs i)
+others_at d [] i s h e = cc
+others_at d (x ∷ xs) zero s h e =
+    let at : x ≡ s = cc in
+    subst (λ z. AllIn (λ y. bytes_eq y.name z.name ≡ false) xs) at (others_differ x.name (x ∷ d) xs (subst IsSome (sym (itself x d)) refl) h)
+others_at d (x ∷ xs) (suc i) s h e = (by (bytes_eq x.name s.name) refl, others_at (x ∷ d) xs i s h e)
+  where
+    other : bytes_eq s.name x.name ≡ false
+    other = all_get (λ y. bytes_eq y.name x.name ≡ false) xs i s (others_differ x.name (x ∷ d) xs (subst IsSome (sym (itself x d)) refl) h) e
+
+    by : (b : Bool) → bytes_eq x.name s.name ≡ b → bytes_eq x.name s.name ≡ false
+    by true q = absurd (true≢false (sym (text_itself s.name x.name (sym (same_text x.name s.name q))) ∙ other))
+    by false q = q
+
+-- where no theory has the name, each has another
+pub absent_differ : (d : Development) (xs : List Signature) (th : Text) → IsDevelopment (theories_after d xs) → theory_named (theories_after d xs) th ≡ None → AllIn (λ y. bytes_eq y.name th ≡ false) xs
+absent_differ d [] th h e = tt
+absent_differ d (x ∷ xs) th h e = (by (bytes_eq x.name th) refl, absent_differ (x ∷ d) xs th h e)
+  where
+    by : (b : Bool) → bytes_eq x.name th ≡ b → bytes_eq x.name th ≡ false
+    by true q = absurd (none_some (theory_named (theories_after (x ∷ d) xs) th) e (subst IsSome (sym (still_named (x ∷ d) xs th x h (ap (λ b. cond b (Some x) (theory_named d th)) q))) refl))
+    by false q = q

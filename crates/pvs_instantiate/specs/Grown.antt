@@ -1,13 +1,10 @@
 -- A theory that stands with one formal, entry or importing more, and what no other theory mentions.
-use Rattle.std.specs.Prelude.{◌≡◌, ◌⊎◌, ◌<◌, ℕ, Option, Some, None, [], ◌∷◌, ◌++◌, remove, slice_get, false, bytes_eq, Contains}
-use Rattle.indexmap.specs.IndexMap.{set_value_at}
+use Rattle.std.specs.Prelude.{◌≡◌, ◌⊎◌, ◌<◌, ℕ, Option, Some, None, List, [], ◌∷◌, ◌++◌, false, not, bytes_eq, filter, Contains}
 use Rattle.pvs_terms.specs.Tree.{Text}
 use Rattle.pvs_cache.specs.declared.key.JudgeKey.{JudgeKey}
 use Rattle.pvs_sig.specs.Signature.{Signature, FormalSig, Entry, Import}
 use Rattle.pvs_sig.specs.Development.{Development, theory_named, IsSignatureOver, In}
 use Rattle.pvs_sig.specs.Laws.{without, Avoids}
-use Rattle.pvs_instantiate.specs.declared.theories.Theory.{Theory}
-use Rattle.pvs_instantiate.specs.Standing.{Entries}
 use Rattle.pvs_instantiate.specs.InstancesView.{InstancesView, stamps}
 
 abbrev pub with_formal : FormalSig → Signature → Signature
@@ -50,20 +47,6 @@ pub record SameStamps (old new : InstancesView) : Type 0 where
   pub stay : (x : Text × ℕ) → In x (stamps old) → In x (stamps new)
   pub stood : (x : Text × ℕ) → In x (stamps new) → In x (stamps old)
 
--- the theory at this place has changed as R says, and stands last
-pub record IsMoved (R : Theory → Theory → Type 0) (old new : Entries) (at : ℕ) : Type 0 where
-  pub name : ℕ
-  pub before : Theory
-  pub after : Theory
-  pub found : slice_get old at ≡ Some (name, before)
-  pub moved : new ≡ remove old at ++ (name, after) ∷ []
-  pub related : R before after
-
--- the theory at this place has changed as R says
-pub record IsSet (R : Theory → Theory → Type 0) (old new : Entries) (at : ℕ) : Type 0 where
-  pub name : ℕ
-  pub before : Theory
-  pub after : Theory
-  pub found : slice_get old at ≡ Some (name, before)
-  pub set : new ≡ set_value_at old at after
-  pub related : R before after
+-- the stamps of the theories of other names
+abbrev pub other_stamps : Text → InstancesView → List (Text × ℕ)
+other_stamps th v = filter (λ x. not (bytes_eq x.0 th)) (stamps v)

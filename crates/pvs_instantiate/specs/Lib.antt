@@ -4,6 +4,5 @@ pub mod InstancesView
 pub mod Soundness
 pub mod Faults
 pub mod Grown
-pub mod Changes
-pub mod KeptTrees
 pub mod Visible
+pub mod code

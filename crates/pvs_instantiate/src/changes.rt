@@ -1,20 +1,31 @@
 //! Theories that come, go and grow.
 
-ghost use Rattle.std.specs.Prelude.{◌≡◌, ◌<◌, ◌-◌, ◌^◌, ℕ, [], ◌∷◌, ◌++◌, length, Some, None, IfOk, OnOk, OnErr, IfSome, IfNone};
+ghost use Rattle.std.specs.Prelude.{◌≡◌, ◌<◌, ◌+◌, ◌-◌, ◌^◌, ℕ, [], ◌∷◌, ◌++◌, length, slice_get, Some, None, IfOk, OnOk, OnErr, IfSome, IfNone};
+ghost use Rattle.std.specs.Map.{keys_of};
 ghost use Rattle.pvs_terms.specs.Stored.{IsName, text_at};
 ghost use Rattle.pvs_sig.specs.SignatureAt.{SignatureIn, FormalIn, EntryIn, ImportIn, signature_at, formal_sig_at, entry_at, import_at};
 ghost use Rattle.pvs_sig.specs.Development.{theory_named, IsSignatureOver};
 ghost use Rattle.pvs_sig.specs.Laws.{without};
 ghost use Rattle.pvs_instantiate.specs.InstancesView.{development, stamps, stamps_from_one};
 ghost use Rattle.pvs_instantiate.specs.Standing.{numbered};
-ghost use Rattle.pvs_instantiate.specs.Grown.{IsAlone, IsNewStamp, SameStamps, MayGrow, grown, with_formal, with_entry, with_import};
+ghost use Rattle.pvs_instantiate.specs.Grown.{IsAlone, IsNewStamp, SameStamps, other_stamps, MayGrow, grown, with_formal, with_entry, with_import};
+ghost use Rattle.pvs_instantiate.specs.code.Growing.{GrowthIn, with_growth};
 
+use crate::growth::Growth;
 use crate::instances::Instances;
 use crate::theories::Theory;
 use pvs_cache::Judgements;
 use pvs_sig::{Entry, FormalSig, Import, Signature};
 use pvs_terms::Name;
 use std::alloc::AllocError;
+
+/// The stamp of a theory that is added after this one was given.
+fn stamp_after(last: u64) -> u64
+    requires { last < 2 ^ 64 - 1 }
+    ensures { result ≡ last + 1 }
+{
+    last + 1
+}
 
 impl<J: Judgements> Instances<J> {
     /// Sees that a stamp is left: where the last one was given, all pairs are forgotten and the
@@ -49,11 +60,26 @@ impl<J: Judgements> Instances<J> {
         ensures store { self.new.store ≡ self.old.store }
     {
         self.leave_stamp();
-        let stamp = self.last_stamp + 1;
+        let stamp = stamp_after(self.last_stamp);
         let name = signature.name;
         self.theories.push(name, Theory { signature, stamp })?;
         self.last_stamp = stamp;
         Ok(stamp)
+    }
+
+    /// Takes out the theory of this name, which stands at this place.
+    fn take_out(&mut self, at: usize, theory: Name) -> Signature
+        requires at { slice_get (keys_of self.old.entries) at ≡ Some theory }
+        requires alone { IsAlone (text_at self.old.store theory) (development self.old) }
+        ensures found { SignatureIn self.new.store result × (theory_named (development self.old) (text_at self.old.store theory) ≡ Some (signature_at self.new.store result)) }
+        ensures rest { development self.new ≡ without (text_at self.old.store theory) (development self.old) }
+        ensures gone { theory_named (development self.new) (text_at self.old.store theory) ≡ None }
+        ensures stamps { stamps self.new ≡ other_stamps (text_at self.old.store theory) self.old }
+        ensures store { self.new.store ≡ self.old.store }
+        ensures kept { self.new.kept ≡ self.old.kept }
+    {
+        let Theory { signature, .. } = self.theories.remove(at);
+        signature
     }
 
     /// Takes out the theory of this name, which no other theory that stands imports or mentions, and
@@ -65,15 +91,32 @@ impl<J: Judgements> Instances<J> {
         ensures none { IfNone result (theory_named (development self.old) (text_at self.old.store theory) ≡ None) }
         ensures rest { development self.new ≡ without (text_at self.old.store theory) (development self.old) }
         ensures gone { theory_named (development self.new) (text_at self.old.store theory) ≡ None }
+        ensures stamps { stamps self.new ≡ other_stamps (text_at self.old.store theory) self.old }
+        ensures store { self.new.store ≡ self.old.store }
+        ensures kept { self.new.kept ≡ self.old.kept }
+    {
+        self.soundness();
+        match self.find(theory) {
+            None => None,
+            Some(at) => Some(self.take_out(at, theory)),
+        }
+    }
+
+    /// Adds at the end of the theory of this name, which becomes the latest and keeps its stamp.
+    fn grow(&mut self, theory: Name, growth: Growth) -> Result<(), AllocError>
+        requires theory { IsName self.old.store theory }
+        requires within { GrowthIn self.old.store growth }
+        requires alone { IsAlone (text_at self.old.store theory) (development self.old) }
+        requires over { MayGrow (development self.old) (text_at self.old.store theory) (with_growth self.old.store growth) }
+        ensures ok { OnOk result (development self.new ≡ grown (development self.old) (text_at self.old.store theory) (with_growth self.old.store growth)) }
+        ensures err { OnErr result (development self.new ≡ development self.old) }
+        ensures stamps { SameStamps self.old self.new }
         ensures store { self.new.store ≡ self.old.store }
         ensures kept { self.new.kept ≡ self.old.kept }
     {
         match self.find(theory) {
-            None => None,
-            Some(at) => {
-                let Theory { signature, .. } = self.theories.remove(at);
-                Some(signature)
-            }
+            None => unreachable!(),
+            Some(at) => self.theories.grow(at, growth),
         }
     }
 
@@ -90,10 +133,7 @@ impl<J: Judgements> Instances<J> {
         ensures store { self.new.store ≡ self.old.store }
         ensures kept { self.new.kept ≡ self.old.kept }
     {
-        match self.find(theory) {
-            None => unreachable!(),
-            Some(at) => self.theories.grow_formal(at, formal),
-        }
+        self.grow(theory, Growth::Formal(formal))
     }
 
     /// Adds an entry at the end of the theory of this name, which keeps its stamp. No other theory that
@@ -109,10 +149,7 @@ impl<J: Judgements> Instances<J> {
         ensures store { self.new.store ≡ self.old.store }
         ensures kept { self.new.kept ≡ self.old.kept }
     {
-        match self.find(theory) {
-            None => unreachable!(),
-            Some(at) => self.theories.grow_entry(at, entry),
-        }
+        self.grow(theory, Growth::Entry(entry))
     }
 
     /// Adds an importing at the end of the theory of this name, which keeps its stamp. No other theory that
@@ -128,9 +165,6 @@ impl<J: Judgements> Instances<J> {
         ensures store { self.new.store ≡ self.old.store }
         ensures kept { self.new.kept ≡ self.old.kept }
     {
-        match self.find(theory) {
-            None => unreachable!(),
-            Some(at) => self.theories.grow_import(at, import),
-        }
+        self.grow(theory, Growth::Import(import))
     }
 }

@@ -4,6 +4,7 @@
 
 mod changes;
 mod fault;
+mod growth;
 mod instances;
 mod parts;
 mod scope;
@@ -12,3 +13,6 @@ mod theories;
 pub use fault::InstFault;
 pub use instances::Instances;
 pub use scope::Scope;
+
+#[cfg(test)]
+mod tests;

@@ -4,6 +4,7 @@ ghost use Rattle.std.specs.Prelude.{◌≡◌, ◌⊎◌, ℕ, [], ◌∷◌, sl
 ghost use Rattle.pvs_terms.specs.Tree.{IsWithinLimits, AreClosed, Own, Formal, Inst, ref_actuals};
 ghost use Rattle.pvs_terms.specs.Stored.{Stored, IsNode, IsName, IsRef, tree_at, ref_at, text_at, Stands, Extends};
 ghost use Rattle.pvs_subst.specs.Instance.{instantiate, HasActuals};
+ghost use Rattle.pvs_cache.specs.Kept.{AddsOnly};
 ghost use Rattle.pvs_cache.specs.declared.key.JudgeKey.{JudgeKey};
 ghost use Rattle.pvs_sig.specs.Signature.{kind_at, formal_at, kind_in, formals_in};
 ghost use Rattle.pvs_sig.specs.Signature as trees;
@@ -12,7 +13,7 @@ ghost use Rattle.pvs_sig.specs.SignatureAt.{option_at, signature_at, entry_kind_
 ghost use Rattle.pvs_sig.specs.Development.{theory_named, MatchFormals};
 ghost use Rattle.pvs_instantiate.specs.InstancesView.{development, Leaves};
 ghost use Rattle.pvs_instantiate.specs.Parts.{part_tree, definition, formula, kind_from, instance_kind, IsRefFrom, IsConstant, IsFormula, GivesTree, GivesOption, PassesLimit};
-ghost use Rattle.pvs_instantiate.specs.KeptTrees.{KeepsTree, FindsTree};
+ghost use Rattle.pvs_instantiate.specs.code.KeptTrees.{KeepsTree, FindsTree};
 ghost use Rattle.pvs_instantiate.specs.declared.fault.InstFault.{InstFault};
 
 use crate::fault::InstFault;
@@ -87,6 +88,30 @@ fn instantiate_by(store: &mut Store, id: Id, theory: Name, r: RefId) -> Result<I
     Ok(made)
 }
 
+/// The tree with the actuals in place of the formals, which is kept for the key, or not.
+fn make_and_keep<J: Judgements>(
+    store: &mut Store,
+    cache: &mut J,
+    key: JudgeKey,
+    id: Id,
+    theory: Name,
+) -> Result<Id, InstFault>
+    requires node { IsNode store.old id }
+    requires theory { IsName store.old theory }
+    requires reference { IsRef store.old key.item }
+    requires formals { HasActuals (ref_actuals (ref_at store.old key.item)) (tree_at store.old id) }
+    ensures ok { IfOk result (Stands store.new (instantiate (tree_at store.old id) (text_at store.old theory) (ref_actuals (ref_at store.old key.item)))) }
+    ensures large { result ≡ Err InstFault.TooLarge → ¬ IsWithinLimits (instantiate (tree_at store.old id) (text_at store.old theory) (ref_actuals (ref_at store.old key.item))) }
+    ensures many { result ≡ Err InstFault.TooManyInstances → ⊥ }
+    ensures kept { Extends store.old store.new }
+    ensures pair { IfOk result (λ made. AddsOnly (J.kept cache.old) (J.kept cache.new) (key, made)) }
+    ensures pairs { OnErr result (J.kept cache.new ≡ J.kept cache.old) }
+{
+    let made = instantiate_by(store, id, theory, key.item)?;
+    let _ = cache.keep(key, made);
+    Ok(made)
+}
+
 /// The tree with the actuals in place of the formals, found in the cache or made and kept there.
 fn find_or_make<J: Judgements>(
     store: &mut Store,
@@ -117,14 +142,12 @@ fn find_or_make<J: Judgements>(
         let _node = store.view(value);
         return Ok(value);
     }
-    let made = instantiate_by(store, id, theory, r)?;
     let key = JudgeKey {
         stamp,
         part,
         item: r,
     };
-    let _ = cache.keep(key, made);
-    Ok(made)
+    make_and_keep(store, cache, key, id, theory)
 }
 
 /// The number as it is. A node of the store stands for a tree within the limits.

@@ -2,8 +2,10 @@
 
 ghost use Rattle.std.specs.Prelude.{◌≡◌, ◌<◌, ◌-◌, ◌^◌, ℕ, [], ◌∷◌, ◌++◌, length, remove, slice_get, Some, None, IfSome, IfNone, IfOk, OnOk, OnErr};
 ghost use Rattle.std.specs.Map.{keys_of};
-ghost use Rattle.pvs_instantiate.specs.Changes.{AddsFormal, AddsEntry, AddsImport, IsSameTheory};
+ghost use Rattle.pvs_instantiate.specs.code.Changes.{AddsFormal, AddsEntry, AddsImport, IsSameTheory};
+ghost use Rattle.pvs_instantiate.specs.code.Growing.{Adds};
 
+use crate::growth::Growth;
 use indexmap::IndexMap;
 use pvs_sig::{Class, Entry, FormalSig, Import, Signature};
 use pvs_terms::{Id, Name};
@@ -67,9 +69,21 @@ fn add_import(theory: &mut Theory, import: Import) -> Result<(), AllocError>
     Ok(())
 }
 
+/// Adds it at the end.
+fn add(theory: &mut Theory, growth: Growth) -> Result<(), AllocError>
+    ensures ok { OnOk result (Adds growth theory.old theory.new) }
+    ensures err { OnErr result (IsSameTheory theory.old theory.new) }
+{
+    match growth {
+        Growth::Formal(formal) => add_formal(theory, formal),
+        Growth::Entry(entry) => add_entry(theory, entry),
+        Growth::Import(import) => add_import(theory, import),
+    }
+}
+
 impl Theories {
     ghost use Rattle.std.specs.Map.{values_of};
-    ghost use Rattle.pvs_instantiate.specs.Grown.{IsMoved, IsSet};
+    ghost use Rattle.pvs_instantiate.specs.code.Places.{IsMoved, IsSet};
     ghost use Rattle.pvs_instantiate.specs.Standing.{numbered};
     ghost use Rattle.pvs_instantiate.specs.declared.theories.Theory.{Theory};
 
@@ -131,35 +145,13 @@ impl Theories {
         self.entries.move_index(at, last);
     }
 
-    /// Adds a formal at the end of the theory at a place, which becomes the last theory.
-    pub(crate) fn grow_formal(&mut self, at: usize, formal: FormalSig) -> Result<(), AllocError>
+    /// Adds at the end of the theory at a place, which becomes the last theory.
+    pub(crate) fn grow(&mut self, at: usize, growth: Growth) -> Result<(), AllocError>
         requires { at < length self.old }
-        ensures ok { OnOk result (IsMoved (AddsFormal formal) self.old self.new at) }
+        ensures ok { OnOk result (IsMoved (Adds growth) self.old self.new at) }
         ensures err { OnErr result (IsSet IsSameTheory self.old self.new at) }
     {
-        add_formal(&mut self.entries[at], formal)?;
-        self.move_last(at);
-        Ok(())
-    }
-
-    /// Adds an entry at the end of the theory at a place, which becomes the last theory.
-    pub(crate) fn grow_entry(&mut self, at: usize, entry: Entry) -> Result<(), AllocError>
-        requires { at < length self.old }
-        ensures ok { OnOk result (IsMoved (AddsEntry entry) self.old self.new at) }
-        ensures err { OnErr result (IsSet IsSameTheory self.old self.new at) }
-    {
-        add_entry(&mut self.entries[at], entry)?;
-        self.move_last(at);
-        Ok(())
-    }
-
-    /// Adds an importing at the end of the theory at a place, which becomes the last theory.
-    pub(crate) fn grow_import(&mut self, at: usize, import: Import) -> Result<(), AllocError>
-        requires { at < length self.old }
-        ensures ok { OnOk result (IsMoved (AddsImport import) self.old self.new at) }
-        ensures err { OnErr result (IsSet IsSameTheory self.old self.new at) }
-    {
-        add_import(&mut self.entries[at], import)?;
+        add(&mut self.entries[at], growth)?;
         self.move_last(at);
         Ok(())
     }

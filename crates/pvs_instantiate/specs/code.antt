@@ -1,0 +1,5 @@
+pub mod Changes
+pub mod KeptTrees
+pub mod Places
+pub mod Growing
+pub mod Examples
