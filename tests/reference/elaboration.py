@@ -251,19 +251,20 @@ class Elab:
         self.check(body, BOOL, inside)
 
     def infer_name(self, qualifier, word, at, here):
-        term = here.local(word.text) if qualifier is None else None
-        if term is None:
-            member = self.reference('constant', qualifier, word, at, here)
-            with placed(at):
-                term = self.term_of(member, qualifier, here)
+        term = self.term_of_name(qualifier, word, at, here)
         with placed(at):
             return term, self.typing.infer(here.context, term)[0]
 
-    def term_of(self, member, qualifier, here):
-        if member.kind != 'variable':
-            return make('Const', member.reference)
-        if self.free is None:
-            return self.scope.unknown(qualifier, member.name)
+    def term_of_name(self, qualifier, word, at, here):
+        """The term of a local variable, a constant, or a VAR that is free in a formula."""
+        if qualifier is None and here.local(word.text):
+            return here.local(word.text)
+        member = self.reference('constant', qualifier, word, at, here)
+        with placed(at):
+            if member.kind != 'variable':
+                return make('Const', member.reference)
+            if self.free is None:
+                self.scope.unknown(qualifier, word.text)
         if member not in self.free:
             raise FreeVariable(member)
         binds = sum(sort == 'bind' for sort, _ in here.context)

@@ -177,7 +177,7 @@ class Replay:
         """The constant of a name; None for a variable of the sequent."""
         if qualifier is None and here.local(word.text) is not None:
             return None
-        term = elab.infer_name(qualifier, word, at, here)[0]
+        term = elab.term_of_name(qualifier, word, at, here)
         self.used |= symbols_of(term)
         return term.parts[0]
 
