@@ -11,6 +11,9 @@ from .tokens import tokens_of
 POOL = 'a b c f g p q r x y z T U nat'.split()
 WORDS = ['LEMMA', 'THEOREM', 'LEMMA', 'AXIOM', 'FACT']
 PROOFS = [
+    '(proof %(t)s.%(l)s ((if 1)))',
+    '(proof %(t)s.%(l)s ((skolem 1) (if 1)))',
+    '(proof %(t)s.%(l)s ((skolem 1) (skolem 1) (cut "s!1 = %(n)s") ((postpone)) ((postpone))))',
     '(proof %(t)s.%(l)s ((cut "%(e)s") ((postpone)) ((postpone))))',
     '(proof %(t)s.%(l)s ((typepred "%(e)s") (postpone)))',
     '(proof %(t)s.%(l)s ((skolem 1) (cut "%(e)s") ((postpone)) ((axiom))))',
@@ -131,6 +134,8 @@ class Theory:
         self.in_formula = True
         text = self.term('bool', [], self.random.randrange(1, 5))
         self.in_formula = False
+        if self.chance(0.2):
+            text = '(%s) OR TRUE' % text
         name = self.new('formula')
         self.formulas.append(name)
         return '%s: %s %s' % (name, word or self.random.choice(WORDS), text)
@@ -288,10 +293,12 @@ class Theory:
         return self.weak('%s %s %s' % (left, sign, self.operand(shape, locals_, depth - 1)))
 
     def quantified_by_equality(self, locals_, depth):
-        """An equation whose tree is that of FORALL, where the types of both sides are one."""
+        """An equation whose tree is that of FORALL, where the types of both sides are one; it is wrong
+        where its body is not boolean."""
         name, shape = self.random.choice(POOL), self.shape(1)
         type_ = self.type(shape, locals_, 1)
-        body = self.term('bool', locals_ + [(name, shape)], depth - 1)
+        result = 'bool' if self.chance(0.9) else self.shape(1)
+        body = self.term(result, locals_ + [(name, shape)], depth - 1)
         other = type_ if self.chance(0.9) else self.type(shape, locals_, 1)
         return self.strong('((LAMBDA (%s: %s): %s) = (LAMBDA (%s: %s): TRUE))'
                            % (name, type_, body, self.random.choice(POOL), other))
