@@ -204,6 +204,7 @@ class Elab:
             outside = here.given(negation(condition))
         second, second_type = self.infer(second, outside)
         if expr[0] == 'IF':
+            # The tree of IF comes before the join of its branches, that of AND, OR and IMPLIES after it.
             with placed(own):
                 make('If', condition, first, second)
         with placed(first_at):

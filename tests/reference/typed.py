@@ -83,7 +83,8 @@ class Theory:
         if not self.formals or self.chance(0.5):
             return []
         ways = [self.assumption, self.assumption, self.variable] + ([self.importing] if self.others else [])
-        return ['ASSUMING'] + [self.random.choice(ways)() for _ in range(self.random.randrange(1, 3))] + ['ENDASSUMING']
+        lines = [self.random.choice(ways)() for _ in range(self.random.randrange(1, 3))]
+        return ['ASSUMING'] + lines + ['ENDASSUMING']
 
     def assumption(self):
         return self.formula('ASSUMPTION')
@@ -406,7 +407,8 @@ def mistaken(random, text):
             if tokens[at + 1].sort == ',' and random.random() < 0.5:
                 new, end = '', tokens[at + 1].end
         elif token.sort not in SIGNS and random.random() < 0.1:
-            new = random.choice(['%s`1', '(%s)(a)', '(%s)', 'NOT (%s)', '(%s, a)', 't.%s', 'th[T].%s']) % token.text
+            new = random.choice(['%s`1', '(%s)(a)', '(%s)', 'NOT (%s)', '(%s, a)', 't.%s', 'th[T].%s'])
+            new = new % token.text
         text = text[:token.start] + new + text[end:]
     return text
 
