@@ -392,7 +392,8 @@ SIGNS = ['=', '/=', 'AND', 'OR', 'IMPLIES', 'IFF']
 
 
 def mistaken(random, text):
-    """The text with some names, numbers and operators exchanged, or entries of lists put in or taken out."""
+    """The text with some names, numbers and operators exchanged, with entries of lists put in or taken
+    out, or without the actuals of a name."""
     for _ in range(random.choice([1, 1, 2, 3])):
         tokens, _ = tokens_of(text)
         names = [token.text for token in tokens if token.sort == 'id'] + ['nat', 'zz', 'bool', 'TRUE']
@@ -406,6 +407,9 @@ def mistaken(random, text):
             new = '%s, %s' % (token.text, new)
             if tokens[at + 1].sort == ',' and random.random() < 0.5:
                 new, end = '', tokens[at + 1].end
+        elif tokens[at + 1].sort == '[' and random.random() < 0.5:
+            new = token.text
+            end = next(other.end for other in tokens[at:] if other.sort == ']')
         elif token.sort not in SIGNS and random.random() < 0.1:
             new = random.choice(['%s`1', '(%s)(a)', '(%s)', 'NOT (%s)', '(%s, a)', 't.%s', 'th[T].%s'])
             new = new % token.text
