@@ -1,197 +1,149 @@
-"""Declarations and importings: their entries and conditions."""
+"""Declarations, formals and importings: their entries and conditions."""
+
+from collections import namedtuple
 
 from .conditions import settled
-from .elaboration import Elaborator, Here, actual_of, refused_at
+from .elaboration import NOWHERE, Elab, placed
 from .errors import Refused
-from .names import Scope, placed
-from .phrases import domain, names_of, occurrences, phrase, type_of_binding, type_phrase, typing_variables
 from .signatures import Entry, Formal, Import, TooManyInstances
-from .trees import BOOL, TRUE, TooLarge, exists, for_all, instance_of, make
-from .typing import bind
+from .trees import BOOL, TRUE, exists, for_all, instance_of, make
 
-NOWHERE = Here()
-
-
-class Declared:
-    """What a declaration gives: an entry or a formal without its name, an importing, the conditions
-    with the place of what each is owed by, and the VARs that gave types."""
-
-    def __init__(self, entry=None, conditions=(), brought=None, variables=()):
-        self.entry, self.conditions, self.brought = entry, list(conditions), brought
-        self.variables = set(variables)
+# What a declaration gives: an entry, a formal or an importing, whose place is set later, the closed
+# conditions in order, and the names of the VARs that gave a type or are free in a formula.
+Declared = namedtuple('Declared', 'given goals variables')
 
 
-def settle(declared, at):
-    """The closed conditions of a declaration."""
-    for place, conditions in declared.conditions:
-        with refused_at(place or at):
-            settled(conditions)
-    with refused_at(at):
-        return settled([condition for _, conditions in declared.conditions for condition in conditions])
-
-
-class Declarations:
-    """Elaborates the declarations that stand at a place of a theory."""
+class Declarer:
+    """Elaborates one declaration."""
 
     def __init__(self, scope):
-        self.scope = scope
-        self.elaborator = Elaborator(scope)
-        self.typing = self.elaborator.typing
+        self.scope, self.development, self.elab = scope, scope.development, Elab(scope)
+        self.typing, self.conditions = self.elab.typing, []
 
-    def of(self, declared):
-        return getattr(self, 'declare_' + declared[0].replace(' ', '_'))(*declared[1:])
+    def declared(self, declaration):
+        form, *parts = declaration
+        given = getattr(self, 'declared_' + form.replace(' ', '_'))(*parts)
+        return Declared(given, self.settled(), self.elab.variables)
 
-    def type(self, tree):
-        """The tree of a type, with its conditions at its place, and its VARs."""
-        form = type_phrase(tree)
-        made = self.elaborator.formed(form, NOWHERE)
-        with refused_at(form[-1]):
-            return made, (form[-1], self.typing.well_formed((), made)), typing_variables(form)
+    def owe(self, at, conditions):
+        """Adds conditions that come from what begins at a place."""
+        self.conditions.append((at, conditions))
 
-    def declare_type(self, word, nonempty):
-        return Declared(Entry(word.text, 'type', nonempty, None))
+    def settled(self):
+        goals = []
+        for at, conditions in self.conditions:
+            with placed(at):
+                goals = settled([((), goal) for goal in goals] + conditions)
+        return goals
 
-    def declare_type_definition(self, word, type_):
-        tree, owed, variables = self.type(type_)
-        return Declared(Entry(word.text, 'type', False, tree), [owed], None, variables)
+    def well_formed(self, type_, here=NOWHERE):
+        tree = self.elab.type(type_, here)
+        self.owe(type_[-1], self.typing.well_formed(here.context, tree))
+        return tree
 
-    def declare_variable(self, word, type_):
-        tree, owed, variables = self.type(type_)
-        return Declared(Entry(word.text, 'variable', tree, None), [owed], None, variables)
-
-    def declare_constant(self, word, parameters, type_, body):
-        if parameters:
-            return self.function(word, parameters, type_, body)
-        tree, owed, variables = self.type(type_)
-        if body is None:
-            return Declared(Entry(word.text, 'constant', tree, None), [owed, self.existence(tree, owed[0])],
-                            None, variables)
-        form = phrase(body)
-        term = self.elaborator.check(form, NOWHERE, form[-1], tree)
-        with refused_at(form[-1]):
-            checked = form[-1], self.typing.check((), term, tree)
-        return Declared(Entry(word.text, 'constant', tree, term), [owed, checked], None,
-                        variables | typing_variables(form))
+    def check(self, expr, type_, here=NOWHERE):
+        tree = self.elab.check(expr, type_, here)
+        self.owe(expr[-1], self.typing.check(here.context, tree, type_))
+        return tree
 
     def existence(self, type_, at):
-        """The condition that an undefined constant owes: that its type has a member."""
-        if self.typing.is_known_nonempty(type_):
-            return at, []
-        with refused_at(at):
-            return at, [((), exists(type_, TRUE))]
+        """Owes that a type has an element, unless it is known to be nonempty."""
+        with placed(at):
+            if not self.typing.is_known_nonempty(type_):
+                self.owe(at, [((), exists(type_, TRUE))])
 
-    def function(self, word, parameters, type_, body):
-        """A constant with parameters: its type is a function type, and its body a LAMBDA."""
-        first = parameters[0][-1]
-        form = domain(parameters, first)
-        arguments = self.elaborator.formed(form, NOWHERE)
-        with refused_at(first):
-            owed = [(first, self.typing.well_formed((), arguments))]
-        here = NOWHERE.under(names_of(parameters), arguments)
-        range_form = type_phrase(type_)
-        range_ = self.elaborator.formed(range_form, here)
-        variables = typing_variables(form) | typing_variables(range_form)
-        with refused_at(range_form[-1]):
-            owed.append((range_form[-1], self.typing.well_formed(here.context, range_)))
-        if body is None:
-            with refused_at(first):
-                whole = make('TFun', arguments, range_)
-            return Declared(Entry(word.text, 'constant', whole, None), owed + [self.existence(whole, first)],
-                            None, variables)
-        body_form = phrase(body)
-        term = self.elaborator.check(body_form, here, body_form[-1], range_)
-        with refused_at(body_form[-1]):
-            owed.append((body_form[-1], self.typing.check(here.context, term, range_)))
-        with refused_at(first):
-            whole = make('TFun', arguments, range_)
-        with refused_at(body_form[-1]):
-            lambda_ = make('Lam', arguments, term)
-        return Declared(Entry(word.text, 'constant', whole, lambda_), owed, None,
-                        variables | typing_variables(body_form))
+    # Types, VARs and formals.
 
-    def formula(self, class_, word, body):
-        form = phrase(body)
-        found = dict.fromkeys(name for name, _ in occurrences(form, self.is_variable))
-        types = [self.variable_type(name) for name in found]
-        context = ()
-        for type_ in types:
-            context = bind(context, type_)
-        self.elaborator.variables = list(found)
-        tree = self.elaborator.check(form, Here((), context), form[-1], BOOL)
-        with refused_at(form[-1]):
-            owed = form[-1], self.typing.check(context, tree, BOOL)
-            for type_ in reversed(types):
+    def declared_type(self, word, nonempty):
+        return Entry(word.text, 'type', nonempty, None)
+
+    def declared_type_definition(self, word, type_):
+        return Entry(word.text, 'type', False, self.well_formed(type_))
+
+    def declared_variable(self, word, type_):
+        return Entry(word.text, 'variable', self.well_formed(type_), None)
+
+    def declared_type_formal(self, word, nonempty):
+        return Formal(word.text, nonempty, None)
+
+    def declared_constant_formal(self, word, type_):
+        return Formal(word.text, False, self.well_formed(type_))
+
+    # Constants.
+
+    def declared_constant(self, word, parameters, type_, body):
+        if parameters:
+            return Entry(word.text, 'constant', *self.function(parameters, type_, body))
+        at, type_ = type_[-1], self.well_formed(type_)
+        if body:
+            return Entry(word.text, 'constant', type_, self.check(body, type_))
+        self.existence(type_, at)
+        return Entry(word.text, 'constant', type_, None)
+
+    def function(self, parameters, range_, body):
+        """The type and the body of a constant with parameters."""
+        at = parameters[0][-1]
+        domain, inside = self.elab.parameters(parameters, NOWHERE, at)
+        self.owe(at, self.typing.well_formed((), domain))
+        range_ = self.well_formed(range_, inside)
+        with placed(at):
+            type_ = make('TFun', domain, range_)
+        if not body:
+            self.existence(type_, at)
+            return type_, None
+        tree = self.check(body, range_, inside)
+        with placed(body[-1]):
+            return type_, make('Lam', domain, tree)
+
+    # Formulas.
+
+    def declared_axiom(self, word, expr):
+        return self.formula(word, 'axiom', expr)
+
+    def declared_lemma(self, word, expr):
+        return self.formula(word, 'lemma', expr)
+
+    def declared_ASSUMPTION(self, word, expr):
+        return self.formula(word, 'assumption', expr)
+
+    def formula(self, word, class_, expr):
+        tree, here = self.elab.formula(expr)
+        self.owe(expr[-1], self.typing.check(here.context, tree, BOOL))
+        with placed(expr[-1]):
+            for _, type_ in here.context:
                 tree = for_all(type_, tree)
-        return Declared(Entry(word.text, 'formula', class_, tree), [owed], None,
-                        typing_variables(form) | set(found))
+        return Entry(word.text, 'formula', class_, tree)
 
-    def is_variable(self, qualifier, word):
-        if qualifier is None:
-            _, member = self.scope.resolve('constant', word)
-        elif qualifier[0].text == self.scope.theory and not qualifier[1]:
-            _, member = self.scope.resolve_in('constant', self.scope.theory, None, word)
-        else:
-            return False
-        return member is not None and member.kind == 'variable'
+    # Importings.
 
-    def variable_type(self, word):
-        _, member = self.scope.resolve('constant', word)
-        return self.scope.development.type_of(self.scope.theory, member.reference)
-
-    def declare_axiom(self, word, body):
-        return self.formula('axiom', word, body)
-
-    def declare_lemma(self, word, body):
-        return self.formula('lemma', word, body)
-
-    def declare_ASSUMPTION(self, word, body):
-        return self.formula('assumption', word, body)
-
-    def declare_importing(self, instance):
-        word, actuals, at = instance
-        development, theory = self.scope.development, word.text
-        formals = development.signatures[theory].formals
-        if formals and not actuals:
+    def declared_importing(self, instance):
+        theory, actuals, at = instance
+        signature = self.development.signatures[theory.text]
+        if signature.formals and not actuals:
             raise Refused(at, 'GenericImporting')
-        if len(formals) != len(actuals):
+        if len(actuals) != len(signature.formals):
             raise Refused(at, 'ActualCount')
-        trees, owed, variables = (), [], set()
-        for formal, actual in zip(formals, actuals):
-            form = actual_of(formal, actual)
-            tree, conditions = self.actual(formal, form, theory, trees)
-            trees += (tree,)
-            owed.append((form[-1], conditions))
-            variables |= typing_variables(form)
-        brought = Import(theory, trees, None)
-        try:
-            with refused_at(at):
-                development.check_import(self.scope.theory, brought)
-                assumptions = [instance_of(entry.second, theory, trees)
-                               for entry in development.signatures[theory].entries
-                               if entry.kind == 'formula' and entry.first == 'assumption']
-        except TooManyInstances:
-            raise Refused(at, 'TooManyInstances') from None
-        owed.append((at, [((), tree) for tree in assumptions]))
-        return Declared(None, owed, brought, variables)
+        trees = ()
+        for formal, actual in zip(signature.formals, actuals):
+            trees += (self.actual(theory.text, formal, actual, trees),)
+        brought = Import(theory.text, trees, None)
+        with placed(at):
+            self.owe(at, [((), instance_of(entry.second, theory.text, trees)) for entry in signature.entries
+                          if entry.kind == 'formula' and entry.first == 'assumption'])
+            try:
+                self.development.check_import(self.scope.theory, brought)
+            except TooManyInstances:
+                raise Refused(at, 'TooManyInstances') from None
+        return brought
 
-    def actual(self, formal, form, theory, earlier):
-        """The tree of an actual of an importing, and its conditions."""
-        at = form[-1]
+    def actual(self, theory, formal, actual, before):
+        """The tree of an actual, given those before it."""
+        form, at = self.elab.actual_form(formal, actual), actual[-1]
         if formal.type_ is None:
-            tree = self.elaborator.formed(form, NOWHERE)
-            with refused_at(at):
-                conditions = self.typing.well_formed((), tree)
-            return tree, conditions + (self.existence(tree, at)[1] if formal.nonempty else [])
-        with refused_at(at):
-            wanted = instance_of(formal.type_, theory, earlier)
-        tree = self.elaborator.check(form, NOWHERE, at, wanted)
-        with refused_at(at):
-            return tree, self.typing.check((), tree, wanted)
-
-
-def declared_formal(scope, formal):
-    """A formal with its conditions."""
-    if formal[0] == 'type':
-        return Declared(Formal(formal[1].text, formal[2], None))
-    tree, owed, variables = Declarations(scope).type(formal[2])
-    return Declared(Formal(formal[1].text, False, tree), [owed], None, variables)
+            tree = self.well_formed(form)
+            if formal.nonempty:
+                self.existence(tree, at)
+            return tree
+        with placed(at):
+            type_ = instance_of(formal.type_, theory, before)
+        return self.check(form, type_)

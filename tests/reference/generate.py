@@ -1,5 +1,7 @@
-"""Units made at random: of the whole grammar, of boolean theories with proofs, and such with a mistake."""
+"""Units made at random: of the whole grammar, of boolean theories and of theories with types, with proofs
+and with mistakes."""
 
+from . import typed
 from .grammar import R, RULES, T, before, rule, ways_of
 from .errors import Refused
 from .reading import unit_of
@@ -201,8 +203,10 @@ def mistaken(random, text):
     return text
 
 
-def unit(random):
+def unit(random, stage):
     """A unit or nearly one, as a string of which each character stands for a byte."""
+    if stage > 2 and random.random() < 0.6:
+        return typed.unit(random, stage)
     kind = random.randrange(4)
     if random.random() < 0.1:
         text = long(random)

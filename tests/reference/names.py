@@ -1,62 +1,54 @@
-"""What a name stands for at a place of a theory."""
+"""The reference of a name at a place of a theory."""
 
-from .errors import Refused
+from .typing import Code
 
-OUT_OF_PROFILE = 'nat naturalnumber posnat int integer rat rational real number'.split()
+NUMBER_TYPES = set('nat naturalnumber posnat int integer rat rational real number'.split())
 
 
 class Scope:
-    """What is visible at a place of a theory: its number of entries, and of formals where a formal
-    is read."""
+    """What the entry of this number of a theory sees: references with names, and instances.
+
+    A condition of a formal sees only the formals before it, which are as many as `formals` says.
+    """
 
     def __init__(self, development, theory, place, formals=None):
-        self.development, self.theory, self.place = development, theory, place
+        self.development, self.theory = development, theory
         self.members = development.members(theory, place, formals)
         self.instances = development.instances(theory, place)
-        self.by_name = {}
-        for member in self.members:
-            self.by_name.setdefault((member.name, kind_of(member)), []).append(member)
 
-    def named(self, kind, word):
-        return self.by_name.get((word, kind), [])
+    def is_visible(self, theory, actuals=None):
+        """Whether an instance of a theory is visible, or the one with these actuals."""
+        return any(one == theory and actuals in (None, its) for one, its in self.instances)
 
-    def resolve(self, kind, word):
-        """The member of a plain name, or a code."""
-        found = self.named(kind, word)
-        own = [member for member in found if member.reference[0] != 'instance']
-        code, member = the_one(own or found)
-        if code == 'Unknown' and word in OUT_OF_PROFILE:
-            return 'OutOfProfile', None
-        return code, member
+    def resolve(self, kind, qualifier, word):
+        """The member of a name, raised as a Code where there is none.
 
-    def sees(self, theory):
-        return theory == self.theory or any(name == theory for name, _ in self.instances)
+        A qualifier is a theory with its actuals, or with None for any. VARs are found as constants.
+        """
+        kinds = ('constant', 'variable') if kind == 'constant' else (kind,)
+        named = [member for member in self.members if member.name == word and member.kind in kinds]
+        own = [member for member in named if member.reference[0] != 'instance']
+        brought = [member for member in named if member.reference[0] == 'instance']
+        if qualifier is None:
+            found = own or brought
+        elif qualifier == (self.theory, None):
+            found = [member for member in own if member.reference[0] == 'own']
+        elif self.is_visible(*qualifier):
+            theory, actuals = qualifier
+            found = [member for member in brought
+                     if member.reference[1] == theory and actuals in (None, member.reference[3])]
+        else:
+            raise Code('NotImported')
+        if len(found) > 1:
+            raise Code('Ambiguous')
+        return found[0] if found else self.unknown(qualifier, word)
 
-    def resolve_in(self, kind, theory, actuals, word):
-        """The member of a name that a theory qualifies, with its actuals or None, or a code."""
-        if theory == self.theory:
-            own = [member for member in self.named(kind, word) if member.reference[0] == 'own']
-            return ('NotImported', None) if actuals is not None else the_one(own)
-        if not any(name == theory and actuals in (None, given) for name, given in self.instances):
-            return 'NotImported', None
-        return the_one([member for member in self.named(kind, word)
-                        if member.reference[0] == 'instance' and member.reference[1] == theory
-                        and actuals in (None, member.reference[3])])
+    def unknown(self, qualifier, word):
+        """Refuses a name that nothing has; by stage 2 no type has a name yet."""
+        is_number_type = qualifier is None and word in NUMBER_TYPES and self.development.stage > 2
+        raise Code('OutOfProfile' if is_number_type else 'Unknown')
 
-
-def kind_of(member):
-    return 'constant' if member.kind == 'variable' else member.kind
-
-
-def the_one(members):
-    if not members:
-        return 'Unknown', None
-    return (None, members[0]) if len(members) == 1 else ('Ambiguous', None)
-
-
-def placed(answer, at):
-    """The member, or a refusal at a place."""
-    code, member = answer
-    if code:
-        raise Refused(at, code)
-    return member
+    def variable(self, word):
+        """The VAR of a name, or None."""
+        return next((member for member in self.members
+                     if member.kind == 'variable' and member.name == word), None)

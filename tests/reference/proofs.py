@@ -3,16 +3,15 @@
 from collections import namedtuple
 
 from .conditions import settled
-from .elaboration import Elaborator, Here
+from .elaboration import Elab, Here
 from .errors import Refused
 from .grammar import begin, first_fault
-from .names import Scope, placed
-from .phrases import phrase, typing_variables
+from .names import Scope
 from .reading import quoted_expression, quoted_fault
 from .rules import Rules
 from .sequents import Sequent
 from .trees import TooLarge, symbols_of, var
-from .typing import Code
+from .typing import Code, Typing
 
 # A step: the place of its parenthesis, its word, and its arguments, of which each is a number with
 # its place, a quoted token or a word.
@@ -82,7 +81,7 @@ class Replay:
         self.development, self.entry = development, entry
         self.cited, self.used, self.variables = set(), set(), set()
         self.open = None
-        self.rules = Rules(Elaborator(self.scope).typing)
+        self.rules = Rules(Typing(development, theory))
 
     def run(self, script):
         """Whether the script proves the formula; raises a refusal at the first step that is refused."""
@@ -158,32 +157,33 @@ class Replay:
         tree = quoted_expression(self.text, argument)
         locals_ = [('s!%d' % number, var(len(sequent.variables) - number))
                    for number in range(1, len(sequent.variables) + 1)]
-        here = Here(locals_, sequent.context)
+        here, elab = Here(locals_, sequent.context), Elab(self.scope)
+        found = self.quoted(kind, tree, here, elab)
+        self.variables |= elab.variables
+        return found
+
+    def quoted(self, kind, tree, here, elab):
+        """The term of a quoted expression, or the reference of a quoted name."""
         if kind == 't':
-            form = phrase(tree)
-            term = Elaborator(self.scope).infer(form, here)[0]
+            term = elab.infer(tree, here)[0]
             self.used |= symbols_of(term)
-            self.variables |= typing_variables(form)
             return term
         _, qualifier, word, at = tree
         if kind == 'c':
-            return self.constant(qualifier, word, at, here)
-        return self.cited_formula(qualifier, word, at, here)
+            return self.constant(qualifier, word, at, here, elab)
+        return self.cited_formula(qualifier, word, at, here, elab)
 
-    def constant(self, qualifier, word, at, here):
+    def constant(self, qualifier, word, at, here, elab):
         """The constant of a name; None for a variable of the sequent."""
         if qualifier is None and here.local(word.text) is not None:
             return None
-        member = Elaborator(self.scope).reference('constant', qualifier, word.text, at, here)
-        if member.kind == 'variable':
-            raise Refused(at, 'Unknown')
-        self.used.add(member.reference)
-        self.used |= symbols_of(*(member.reference[3] if member.reference[0] == 'instance' else ()))
-        return member.reference
+        term = elab.term_of_name(qualifier, word, at, here)
+        self.used |= symbols_of(term)
+        return term.parts[0]
 
-    def cited_formula(self, qualifier, word, at, here):
+    def cited_formula(self, qualifier, word, at, here, elab):
         try:
-            member = Elaborator(self.scope).reference('formula', qualifier, word.text, at, here)
+            member = elab.reference('formula', qualifier, word, at, here)
         except Refused as refused:
             is_own = qualifier is None or (qualifier[0].text == self.theory and not qualifier[1])
             if is_own and refused.fault[1] in ('Unknown', 'OutOfProfile') and self.stands_later(word.text):

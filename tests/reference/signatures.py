@@ -31,9 +31,10 @@ class TooManyInstances(Exception):
 
 
 class Development:
-    """The signatures of accepted theories, and the one that is being checked."""
+    """The signatures of accepted theories, and the one that is being checked, at a stage."""
 
-    def __init__(self):
+    def __init__(self, stage):
+        self.stage = stage
         self.signatures, self.whole = {}, {}
 
     def entry(self, theory, reference):

@@ -2,7 +2,7 @@
 
 import re
 
-from .declarations import Declarations, declared_formal, settle
+from .declarations import Declarer
 from .errors import Refused
 from .names import Scope
 from .signatures import Development, Entry, Signature
@@ -119,7 +119,7 @@ class Checker:
 
     def __init__(self, theories, stage):
         self.theories, self.stage = theories, stage
-        self.development = Development()
+        self.development = Development(stage)
         self.results, self.variables = {}, {}
 
     def imports_of(self, name):
@@ -199,25 +199,26 @@ class Elaboration:
 
     def formal(self, number, formal):
         place = len(self.signature.entries)
-        found = declared_formal(Scope(self.development, self.name, place, number), formal)
-        goals = settle(found, formal[1].at)
+        scope = Scope(self.development, self.name, place, number)
+        form = ('type formal',) + formal[1:] if formal[0] == 'type' else formal
+        given, goals, variables = Declarer(scope).declared(form)
         self.room(1 + len(goals), formal[1].at)
-        self.variables['formal', number] = found.variables
+        self.variables['formal', number] = variables
         self.conditions(goals, formal[1].text, ('formal', number), formal[1].at)
-        self.signature.formals.append(found.entry)
+        self.signature.formals.append(given)
 
     def declaration(self, declared):
         importing = declared[0] == 'importing'
         word = declared[1][0] if importing else declared[1]
-        found = Declarations(Scope(self.development, self.name, len(self.signature.entries))).of(declared)
-        goals = settle(found, word.at)
+        scope = Scope(self.development, self.name, len(self.signature.entries))
+        given, goals, variables = Declarer(scope).declared(declared)
         self.room(len(goals) + (0 if importing else 1), word.at)
         if importing:
             self.conditions(goals, 'IMP_' + word.text, 'import condition', word.at)
             place = len(self.signature.entries)
-            self.variables['import', len(self.signature.imports)] = found.variables
-            self.signature.imports.append(found.brought._replace(place=place))
+            self.variables['import', len(self.signature.imports)] = variables
+            self.signature.imports.append(given._replace(place=place))
             return
         self.conditions(goals, word.text, 'condition', word.at)
-        self.variables['own', len(self.signature.entries)] = found.variables
-        self.signature.entries.append(found.entry)
+        self.variables['own', len(self.signature.entries)] = variables
+        self.signature.entries.append(given)
