@@ -9,3 +9,6 @@ mod steps;
 pub use rule::LogicRule;
 pub use sound::step_keeps_truth;
 pub use steps::step;
+
+#[cfg(test)]
+mod tests;

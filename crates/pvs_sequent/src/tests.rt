@@ -1,10 +1,16 @@
-//! Each public call once with its answer.
+//! Each public call once with its answer, and cases of sequents that are closed.
+//!
+//! A test makes the store, and a function that borrows it has the calls with `?` and the assertions:
+//! each way out of a function that owns a store drops it, which is dear to prove. Sequents likewise.
 
-ghost use Rattle.std.specs.Prelude.{◌≡◌, IfOk};
-ghost use Rattle.pvs_terms.specs.Stored.{IsNode};
+ghost use Rattle.std.specs.Prelude.{◌≡◌, IfOk, OnOk};
+ghost use Rattle.pvs_terms.specs.Stored.{IsNode, Extends};
+ghost use Rattle.pvs_sequent.specs.Numbers.{IsSequent};
 
-use crate::{Place, Sequent, Side, place_of, push_open, side_of};
-use pvs_terms::{Node, RefKind, Store};
+use crate::{IdList, Place, RuleFault, Sequent, Side, place_of, push_open, side_of};
+use pvs_terms::{Id, MakeFault, Node, Store};
+use std::alloc::{AllocError, Global};
+use std::process::Abort;
 use std::test::Fail;
 
 #[test]
@@ -15,5 +21,270 @@ fn numbers_name_places(rt: HostRuntime) -> Result<(), Fail> {
     assert!(rt; place_of(-9223372036854775808) == Place::Antecedent(9223372036854775807));
     assert!(rt; side_of(place_of(-3)) == Side::Antecedents);
     assert!(rt; side_of(place_of(3)) == Side::Consequents);
+    assert!(rt; side_of(Place::Nowhere) == Side::Consequents);
+    assert!(rt; RuleFault::from(AllocError) == RuleFault::Memory);
+    Ok(())
+}
+
+/// The formula of a letter: the variable p or q, TRUE or FALSE.
+fn formula(store: &mut Store, letter: u8) -> Result<Id, MakeFault>
+    ensures node { IfOk result (IsNode store.new) }
+    ensures kept { Extends store.old store.new }
+{
+    match letter {
+        b'T' => store.make(Node::True),
+        b'F' => store.make(Node::False),
+        b'q' => store.make(Node::Var(1)),
+        _ => store.make(Node::Var(0)),
+    }
+}
+
+/// Adds the formula of a letter as the first one of a side.
+fn push_letter(
+    store: &mut Store,
+    sequent: &mut Sequent,
+    side: Side,
+    letter: u8,
+) -> Result<(), MakeFault>
+    requires { IsSequent store.old sequent.old }
+    ensures { OnOk result (IsSequent store.new sequent.new) }
+{
+    let id = formula(store, letter)?;
+    sequent.push_first(store, side, id)?;
+    Ok(())
+}
+
+/// Adds the formulas of letters, from the last one on: consequents, and antecedents before a bar.
+fn push_letters(store: &mut Store, sequent: &mut Sequent, letters: &str) -> Result<(), MakeFault>
+    requires { IsSequent store.old sequent.old }
+    ensures { OnOk result (IsSequent store.new sequent.new) }
+{
+    let mut side = Side::Consequents;
+    let bytes = letters.as_bytes();
+    for i in 0..bytes.len() {
+        let letter = bytes[bytes.len() - 1 - i];
+        if letter == b'|' {
+            side = Side::Antecedents;
+        } else {
+            push_letter(store, sequent, side, letter)?;
+        }
+    }
+    Ok(())
+}
+
+/// The sequent of letters: antecedents, a bar, and the consequents but the last one, which is given
+/// apart.
+fn sequent_of(
+    alloc: Global,
+    store: &mut Store,
+    letters: &str,
+    last: u8,
+) -> Result<Sequent, MakeFault>
+    ensures { IfOk result (IsSequent store.new) }
+{
+    let id = formula(store, last)?;
+    let mut sequent = Sequent::goal(alloc, store, id)?;
+    push_letters(store, &mut sequent, letters)?;
+    Ok(sequent)
+}
+
+/// Whether the formula of a number is that of a letter, or none for a bar.
+fn is_letter(
+    store: &mut Store,
+    sequent: &Sequent,
+    number: i64,
+    letter: u8,
+) -> Result<bool, MakeFault> {
+    let found = sequent.formula(number);
+    if letter == b'|' {
+        return Ok(found.is_none());
+    }
+    Ok(found == Some(formula(store, letter)?))
+}
+
+/// The number after this one on its side, or that of the first consequent after a bar.
+fn next_number(number: i64, letter: u8) -> i64 {
+    if letter == b'|' {
+        1
+    } else if number < 0 {
+        number.wrapping_sub(1)
+    } else {
+        number.wrapping_add(1)
+    }
+}
+
+/// Whether a sequent has the formulas of these letters: antecedents, a bar and consequents.
+fn is_written(store: &mut Store, sequent: &Sequent, letters: &str) -> Result<bool, MakeFault> {
+    let mut number: i64 = -1;
+    for letter in letters.as_bytes() {
+        if !is_letter(store, sequent, number, *letter)? {
+            return Ok(false);
+        }
+        number = next_number(number, *letter);
+    }
+    Ok(sequent.formula(number).is_none())
+}
+
+/// A sequent, its last consequent, and whether the rule axiom closes it.
+const CASES: [(&str, u8, bool); 12] = [
+    ("pq|p", b'q', true),
+    ("qqp|", b'p', true),
+    ("T|", b'T', true),
+    ("pF|", b'q', true),
+    ("F|", b'F', true),
+    ("p|T", b'q', true),
+    ("|", b'T', true),
+    ("|", b'p', false),
+    ("pp|qq", b'q', false),
+    ("T|", b'q', false),
+    ("p|F", b'q', false),
+    ("T|", b'F', false),
+];
+
+/// Whether the rule axiom closes a sequent, by the sequent itself and by what is left of it as a
+/// premise.
+fn is_closed_twice(alloc: Global, store: &Store, sequent: Sequent) -> Result<[bool; 2], AllocError>
+    requires { IsSequent store.now sequent }
+{
+    let closed = sequent.is_closed(store);
+    let mut premises = Vec::new(alloc);
+    push_open(store, &mut premises, sequent)?;
+    Ok([closed, premises.is_empty()])
+}
+
+#[test]
+fn three_causes_close_a_sequent(rt: HostRuntime) -> Result<(), Fail> {
+    let mut store = Store::new(rt.alloc())?;
+    are_closed_by_three_causes(&rt, rt.alloc(), &mut store)
+}
+
+fn are_closed_by_three_causes(
+    rt: &impl Abort,
+    alloc: Global,
+    store: &mut Store,
+) -> Result<(), Fail> {
+    for (letters, last, wanted) in CASES {
+        let sequent = sequent_of(alloc, store, letters, last)?;
+        let closed = is_closed_twice(alloc, store, sequent)?;
+        assert!(rt; closed == [wanted, wanted], "at {letters}");
+    }
+    Ok(())
+}
+
+#[test]
+fn a_formula_is_taken_out(rt: HostRuntime) -> Result<(), Fail> {
+    let mut store = Store::new(rt.alloc())?;
+    is_taken_out(&rt, rt.alloc(), &mut store)
+}
+
+fn is_taken_out(rt: &impl Abort, alloc: Global, store: &mut Store) -> Result<(), Fail> {
+    let mut sequent = sequent_of(alloc, store, "pq|pTF", b'q')?;
+    takes_out(rt, alloc, store, &mut sequent)
+}
+
+/// Takes out the formula at a place, where there is one.
+fn remove_any(store: &Store, sequent: &mut Sequent, place: Place)
+    requires { IsSequent store.now sequent.old }
+{
+    if let Some(_) = sequent.formula_at(place) {
+        sequent.remove(store, place);
+    }
+}
+
+/// Takes out the second consequent, and looks at what is left and at a copy of what was there.
+fn takes_out(
+    rt: &impl Abort,
+    alloc: Global,
+    store: &mut Store,
+    sequent: &mut Sequent,
+) -> Result<(), Fail>
+    requires { IsSequent store.old sequent.old }
+{
+    let copy = sequent.copy(alloc)?;
+    remove_any(store, sequent, Place::Consequent(1));
+    assert!(rt; is_written(store, sequent, "pq|pFq")?);
+    is_as_before(rt, store, &copy)
+}
+
+fn is_as_before(rt: &impl Abort, store: &mut Store, copy: &Sequent) -> Result<(), Fail> {
+    assert!(rt; is_written(store, copy, "pq|pTFq")?);
+    Ok(())
+}
+
+#[test]
+fn a_formula_is_added(rt: HostRuntime) -> Result<(), Fail> {
+    let mut store = Store::new(rt.alloc())?;
+    is_added(&rt, rt.alloc(), &mut store)
+}
+
+fn is_added(rt: &impl Abort, alloc: Global, store: &mut Store) -> Result<(), Fail> {
+    let mut sequent = sequent_of(alloc, store, "p|", b'q')?;
+    adds_true(rt, store, &mut sequent)
+}
+
+/// Whether the rule axiom closes a sequent with one more consequent. The sequent is then as before.
+fn closes_with(store: &Store, sequent: &mut Sequent, consequent: Id) -> Result<bool, AllocError>
+    requires sequent { IsSequent store.now sequent.old }
+    requires consequent { IsNode store.now consequent }
+{
+    sequent.add(store, Side::Consequents, consequent)?;
+    let closed = sequent.is_closed(store);
+    sequent.undo_add(store, Side::Consequents, consequent);
+    Ok(closed)
+}
+
+/// Adds an antecedent, and then a consequent that is taken out again: whether that one closes the
+/// sequent.
+fn add_both(store: &Store, sequent: &mut Sequent, formula: Id) -> Result<bool, AllocError>
+    requires sequent { IsSequent store.now sequent.old }
+    requires formula { IsNode store.now formula }
+{
+    sequent.add(store, Side::Antecedents, formula)?;
+    closes_with(store, sequent, formula)
+}
+
+/// Adds TRUE, which is left out as an antecedent and closes the sequent as a consequent.
+fn adds_true(rt: &impl Abort, store: &mut Store, sequent: &mut Sequent) -> Result<(), Fail>
+    requires { IsSequent store.old sequent.old }
+{
+    let truth = formula(store, b'T')?;
+    assert!(rt; add_both(store, sequent, truth)?);
+    assert!(rt; is_written(store, sequent, "p|q")?);
+    Ok(())
+}
+
+#[test]
+fn a_list_grows_at_its_beginning(rt: HostRuntime) -> Result<(), Fail> {
+    let mut store = Store::new(rt.alloc())?;
+    grows_at_its_beginning(&rt, rt.alloc(), &mut store)
+}
+
+/// The numbers of the formulas p, q and TRUE.
+fn three_formulas(store: &mut Store) -> Result<[Id; 3], MakeFault> {
+    Ok([
+        formula(store, b'p')?,
+        formula(store, b'q')?,
+        formula(store, b'T')?,
+    ])
+}
+
+/// Adds numbers to a list.
+fn push_all(list: &mut IdList, ids: &[Id]) -> Result<(), AllocError> {
+    for id in ids {
+        list.push_first(*id)?;
+    }
+    Ok(())
+}
+
+fn grows_at_its_beginning(rt: &impl Abort, alloc: Global, store: &mut Store) -> Result<(), Fail> {
+    let [p, q, truth] = three_formulas(store)?;
+    let mut list = IdList::new(alloc);
+    push_all(&mut list, &[p, q, truth])?;
+    let copy = list.copy(alloc)?;
+    assert!(rt; copy.len() == 3 && copy.get(1) == Some(q) && copy.get(3).is_none());
+    if list.len() > 2 {
+        assert!(rt; list.remove(2) == p);
+    }
+    assert!(rt; list.last_first() == [q, truth].as_slice());
     Ok(())
 }
