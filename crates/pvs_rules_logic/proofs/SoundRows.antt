@@ -1,19 +1,18 @@
 -- Each row of the table of rules is sound: a refuted sequent has a refuted main premise.
-use Rattle.std.proofs.Common.{◌≡◌, ◌∙◌, refl, sym, ap, inl, inr, Bool, true, false, if◌then◌else◌, List, [], ◌∷◌, Option, Some, None, Ok}
+use Rattle.std.proofs.Common.{◌≡◌, ◌∙◌, refl, sym, ap, inl, inr, Bool, true, false, if◌then◌else◌, List, [], ◌∷◌, Some, Ok}
 use Rattle.pvs_terms.specs.Tree.{Tree, If}
 use Rattle.pvs_sem.specs.Truth.{Interpretation, truth}
 use Rattle.pvs_sequent.specs.declared.place.Place.{Place}
 use Rattle.pvs_sequent.specs.declared.place.Side.{Side}
 use Rattle.pvs_sequent.specs.declared.place.Side.TheVariants as side
 use Rattle.pvs_sequent.specs.Sequents.{Sequent, place_of, side_of, formula_at, without, add, is_closed}
-use Rattle.pvs_sequent.specs.Outcomes.{applicable, pure, ◌>>=◌}
 use Rattle.pvs_sequent.specs.Premises.{Premises}
 use Rattle.pvs_sequent.specs.Truth.{IsTrueSequent, AreTrueSequents}
 use Rattle.pvs_sequent.proofs.Refutations.{Refutes, truth_on, refuted_at, refuted_without, refuted_add, refuted_closed, not_refuted_true}
 use Rattle.pvs_sequent.proofs.OutcomeLaws.{Gives, SomeOf, where_true, where_found, finished_refuted, HoldsFor, truth_valuation, none_closed_in, true_none_refuted}
 use Rattle.pvs_rules_logic.specs.Rules.{Rule}
 use Rattle.pvs_rules_logic.specs.Rules as rule
-use Rattle.pvs_rules_logic.specs.Rows.{Branches, branches_of, then_premise, else_premise, axiom_row, if_row, numbered, row}
+use Rattle.pvs_rules_logic.specs.Rows.{Branches, branches_of, then_premise, else_premise, axiom_row, if_row, row}
 use Rattle.pvs_rules_logic.specs.Step.{step}
 
 -- a tree with branches is a conditional

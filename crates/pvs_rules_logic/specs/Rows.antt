@@ -1,5 +1,5 @@
 -- The rows of the table of rules: what each rule applies to, and its main premises.
-use Rattle.std.specs.Prelude.{ℤ, List, [], ◌∷◌, Option, Some, None}
+use Rattle.std.specs.Prelude.{ℤ, [], ◌∷◌, Option, Some, None}
 use Rattle.pvs_terms.specs.Tree.{Tree, If}
 use Rattle.pvs_sequent.specs.declared.place.Place.{Place}
 use Rattle.pvs_sequent.specs.declared.place.Side.{Side}
