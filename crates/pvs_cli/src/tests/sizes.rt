@@ -18,6 +18,11 @@ const TOO_MANY_MARKS: &str = "unit u refused 1:834 TooNested\n\
 const TOO_LONG_CHAIN: &str = "unit u refused 1:1236 TooNested\n\
     total complete 0 incomplete 0 open 0 refused 1\n";
 
+const TOO_LARGE: &str = "theory t refused 1:97691 TooLarge\n\
+    total complete 0 incomplete 0 open 0 refused 1\n";
+
+const OPEN: &str = "theory t\nt.l open\ntotal complete 0 incomplete 0 open 1 refused 0\n";
+
 const TOO_LONG: &str = "unit u refused 1:1 TextTooLong\n\
     total complete 0 incomplete 0 open 0 refused 1\n";
 
@@ -99,18 +104,71 @@ fn nested(alloc: Global, open: &str, close: &str, depth: usize) -> Result<String
 
 #[test]
 fn nesting(rt: HostRuntime) -> Result<(), Fail> {
-    let open = "theory t\nt.l open\ntotal complete 0 incomplete 0 open 1 refused 0\n";
     for (before, after, depth, report) in [
-        ("(", ")", 200, open),
+        ("(", ")", 200, OPEN),
         ("(", ")", 201, TOO_NESTED),
         // The trees of these are as deep as those of a text may be.
-        ("NOT ", "", 200, open),
+        ("NOT ", "", 200, OPEN),
         ("NOT ", "", 201, TOO_MANY_MARKS),
-        ("p AND ", "", 200, open),
+        ("p AND ", "", 200, OPEN),
         ("p AND ", "", 201, TOO_LONG_CHAIN),
     ] {
         let text = nested(rt.alloc(), before, after, depth)?;
         assert_report(&rt, rt.alloc(), &text, report, Status::Unfinished)?;
+    }
+    Ok(())
+}
+
+/// A conjunction of one operand, so many times.
+fn conjunction(alloc: Global, operand: &str, width: usize) -> Result<String, AllocError> {
+    let mut text = String::from_str(alloc, "(")?;
+    for _ in 1..width {
+        text.push_str(operand)?;
+        text.push_str("&")?;
+    }
+    text.push_str(operand)?;
+    text.push_str(")")?;
+    Ok(text)
+}
+
+/// A theory whose lemma is a conjunction of conjunctions, four deep, and so has the fourth power of
+/// `width` operands. A tree of n operands has 3 n - 2 nodes.
+fn conjunctions(alloc: Global, width: usize) -> Result<String, AllocError> {
+    let mut formula = String::from_str(alloc, "p")?;
+    for _ in 0..4 {
+        formula = conjunction(alloc, &formula, width)?;
+    }
+    let mut text = String::from_str(alloc, "t: THEORY BEGIN p: bool l: LEMMA ")?;
+    text.push_str(&formula)?;
+    text.push_str(" END t")?;
+    Ok(text)
+}
+
+#[test]
+fn large_formulas(rt: HostRuntime) -> Result<(), Fail> {
+    for (width, report) in [
+        (24, OPEN),
+        // The last 22 of the 25 conjunctions make a tree of more than 1,000,000 nodes; the last 21
+        // do not.
+        (25, TOO_LARGE),
+    ] {
+        let text = conjunctions(rt.alloc(), width)?;
+        let went = outcome(
+            rt.alloc(),
+            &["check"],
+            text.as_bytes(),
+            65_536,
+            None,
+            4096,
+            None,
+        )?;
+        let written = from_utf8(&went.written).unwrap_or("no text");
+        assert_eq!(rt; written, report, "of conjunctions of {width}");
+        assert_eq!(rt;
+            went.status,
+            Status::Unfinished,
+            "of conjunctions of {width}"
+        );
     }
     Ok(())
 }
