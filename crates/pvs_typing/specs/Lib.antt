@@ -1,3 +1,5 @@
 pub mod Growth
 pub mod Answers
 pub mod Above
+pub mod Owed
+pub mod code

@@ -1,10 +1,16 @@
 //! Typing of core trees by number: the forms of types.
 #![tactic(auto)]
 
+mod coercion;
+mod contexts;
 mod fault;
 mod forms;
+mod judged;
+mod tasks;
 mod theories;
 
+pub use coercion::coerce;
 pub use fault::TypeFault;
 pub use forms::{head, up};
+pub use judged::Judged;
 pub use theories::Theories;
