@@ -1,2 +1,5 @@
 pub mod GrowthLaws
 pub mod FormsOver
+pub mod OwedLaws
+pub mod NodeLaws
+pub mod PartLaws

@@ -6,6 +6,9 @@ mod contexts;
 mod fault;
 mod forms;
 mod judged;
+mod nodes;
+mod parts;
+mod steps;
 mod tasks;
 mod theories;
 
