@@ -3,3 +3,4 @@ pub mod FormsOver
 pub mod OwedLaws
 pub mod NodeLaws
 pub mod PartLaws
+pub mod TaskLaws

@@ -82,7 +82,7 @@ fn to_name<T: Theories>(
     requires r { IsRef (T.stored theories.old) r }
     requires is { tree_at (T.stored theories.old) to ≡ TName (ref_at (T.stored theories.old) r) }
     requires ordered { IsOrdered (T.lookups theories.old theory) }
-    ensures ok { IfOk result (Follows (T.lookups theories.old theory) (T.stored theories.new) (T.declares theories.new theory) (coerce_to (T.lookups theories.old theory) (coerce (T.lookups theories.old theory)) (context_at (T.stored theories.old) context.items) (tree_at (T.stored theories.old) term) (tree_at (T.stored theories.old) from) (TName (ref_at (T.stored theories.old) r))) (coercion_work (T.lookups theories.old theory) (tree_at (T.stored theories.old) from) (tree_at (T.stored theories.old) to))) }
+    ensures ok { IfOk result (Follows (T.lookups theories.old theory) (T.stored theories.new) (T.declares theories.new theory) (coerce_to (T.lookups theories.old theory) (coerce (T.lookups theories.old theory)) (context_at (T.stored theories.old) context.items) (tree_at (T.stored theories.old) term) (tree_at (T.stored theories.old) from) (TName (ref_at (T.stored theories.old) r))) (coercion_work (T.lookups theories.old theory) (tree_at (T.stored theories.old) from) (TName (ref_at (T.stored theories.old) r)))) }
     ensures refused { IfErr result (IsFault (coerce_to (T.lookups theories.old theory) (coerce (T.lookups theories.old theory)) (context_at (T.stored theories.old) context.items) (tree_at (T.stored theories.old) term) (tree_at (T.stored theories.old) from) (TName (ref_at (T.stored theories.old) r)))) }
     ensures kept { Keeps (T.stored theories.old) (T.declares theories.old theory) (T.lookups theories.old theory) (T.stored theories.new) (T.declares theories.new theory) (T.lookups theories.new theory) }
 {
@@ -102,7 +102,7 @@ fn to_name<T: Theories>(
 
 /// To a predicate subtype: to its supertype, and then the predicate is owed.
 fn to_subtype<T: Theories>(
-    theories: &mut T,
+    theories: &T,
     _theory: Name,
     context: Context,
     term: Id,
@@ -110,12 +110,11 @@ fn to_subtype<T: Theories>(
     supertype: Id,
     predicate: Id,
 ) -> Result<Next, TypeFault>
-    requires theory { IsName (T.stored theories.old) _theory }
-    requires coercion { IsKnownCoercion (T.stored theories.old) (T.declares theories.old _theory) context term from supertype }
-    requires predicate { IsKnown (T.stored theories.old) (T.declares theories.old _theory) OfTerm predicate }
-    ensures ok { IfOk result (Follows (T.lookups theories.old _theory) (T.stored theories.new) (T.declares theories.new _theory) (coerce_to (T.lookups theories.old _theory) (coerce (T.lookups theories.old _theory)) (context_at (T.stored theories.old) context.items) (tree_at (T.stored theories.old) term) (tree_at (T.stored theories.old) from) (TSub (tree_at (T.stored theories.old) supertype) (tree_at (T.stored theories.old) predicate))) (coercion_work (T.lookups theories.old _theory) (tree_at (T.stored theories.old) from) (TSub (tree_at (T.stored theories.old) supertype) (tree_at (T.stored theories.old) predicate)))) }
-    ensures refused { IfErr result (IsFault (coerce_to (T.lookups theories.old _theory) (coerce (T.lookups theories.old _theory)) (context_at (T.stored theories.old) context.items) (tree_at (T.stored theories.old) term) (tree_at (T.stored theories.old) from) (TSub (tree_at (T.stored theories.old) supertype) (tree_at (T.stored theories.old) predicate)))) }
-    ensures kept { Keeps (T.stored theories.old) (T.declares theories.old _theory) (T.lookups theories.old _theory) (T.stored theories.new) (T.declares theories.new _theory) (T.lookups theories.new _theory) }
+    requires theory { IsName (T.stored theories.now) _theory }
+    requires coercion { IsKnownCoercion (T.stored theories.now) (T.declares theories.now _theory) context term from supertype }
+    requires predicate { IsKnown (T.stored theories.now) (T.declares theories.now _theory) OfTerm predicate }
+    ensures ok { IfOk result (Follows (T.lookups theories.now _theory) (T.stored theories.now) (T.declares theories.now _theory) (coerce_to (T.lookups theories.now _theory) (coerce (T.lookups theories.now _theory)) (context_at (T.stored theories.now) context.items) (tree_at (T.stored theories.now) term) (tree_at (T.stored theories.now) from) (TSub (tree_at (T.stored theories.now) supertype) (tree_at (T.stored theories.now) predicate))) (coercion_work (T.lookups theories.now _theory) (tree_at (T.stored theories.now) from) (TSub (tree_at (T.stored theories.now) supertype) (tree_at (T.stored theories.now) predicate)))) }
+    ensures refused { IfErr result (IsFault (coerce_to (T.lookups theories.now _theory) (coerce (T.lookups theories.now _theory)) (context_at (T.stored theories.now) context.items) (tree_at (T.stored theories.now) term) (tree_at (T.stored theories.now) from) (TSub (tree_at (T.stored theories.now) supertype) (tree_at (T.stored theories.now) predicate)))) }
 {
     let alloc = theories.store().allocator();
     let outer = copy_context(alloc, &context)?;
