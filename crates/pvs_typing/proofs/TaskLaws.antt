@@ -302,3 +302,30 @@ head_smaller l ordered b d e = IfOk-at_ok (λ u. type_size l.rank u ≤ type_siz
 -- the head stands for the given type
 pub head_work : (l : Lookups) → IsOrdered l → (b d a : Tree) → head l b ≡ Ok d → coercion_work l d a ≤ coercion_work l b a
 head_work l ordered b d a e = bound_more (type_size l.rank d + type_size l.rank a) (type_size l.rank b + type_size l.rank a) (omega (arith, head_smaller l ordered b d e))
+
+pub follows_under : {l m : Lookups} {s : Stored} {P : Sort → Ref → Type 0} {o u : Outcome (Unit {0})} {v w : ℕ} {x : Next} → m ≡ l → Follows m s P o v x → o ≡ u → v ≤ w → Follows l s P u w x
+follows_under {s = s} {P} {u = u} {w = w} {x = x} e h j k = subst (λ y. Follows y s P u w x) e (follows_as h j k)
+
+-- the terms and types of a coercion between tuple types, in the store of the head
+pub parts_same : {s t : Stored} {P Q : Sort → Ref → Type 0} {l m : Lookups} (g : Context) (n a b1 b2 a1 a2 : ℕ) → Keeps s P l t Q m → IsKnownContext s P g.items → IsKnown s P OfTerm a → IsKnown s P OfType a1 → IsKnown s P OfType a2
+    → coerce_parts (coerce m) (context_at t g.items) (tree_at t a) n (tree_at t b1) (tree_at t b2) (tree_at t a1) (tree_at t a2)
+    ≡ coerce_parts (coerce l) (context_at s g.items) (tree_at s a) n (tree_at t b1) (tree_at t b2) (tree_at s a1) (tree_at s a2)
+parts_same g n a b1 b2 a1 a2 k c x y z = rw (k.lookups, context_same g.items k c, k.stored.trees a x.node, k.stored.trees a1 y.node, k.stored.trees a2 z.node) refl
+
+pub pair_follows : {s t : Stored} {P Q : Sort → Ref → Type 0} {l m : Lookups} (u : Stored) (R : Sort → Ref → Type 0) (g : Context) (n a b f b1 b2 a1 a2 : ℕ) (x : Next) → IsOrdered l → Keeps s P l t Q m → IsKnownCoercion s P g a b a1 → IsKnown s P OfType a2
+    → head l (tree_at s b) ≡ Ok (tree_at t f) → tree_at t f ≡ TPair n (tree_at t b1) (tree_at t b2)
+    → Follows m u R (coerce_parts (coerce m) (context_at t g.items) (tree_at t a) n (tree_at t b1) (tree_at t b2) (tree_at t a1) (tree_at t a2)) (coercion_work m (TPair n (tree_at t b1) (tree_at t b2)) (TPair n (tree_at t a1) (tree_at t a2))) x
+    → Follows l u R (coerce_to l (coerce l) (context_at s g.items) (tree_at s a) (tree_at s b) (TPair n (tree_at s a1) (tree_at s a2))) (coercion_work l (tree_at s b) (TPair n (tree_at s a1) (tree_at s a2))) x
+pair_follows {s} {t} {l = l} {m} u R g n a b f b1 b2 a1 a2 x ordered k h j e i y =
+    let d : head l (tree_at s b) ≡ Ok (TPair n (tree_at t b1) (tree_at t b2)) = e ∙ ap (λ z. Ok z) i in
+    let w : coercion_work m (TPair n (tree_at t b1) (tree_at t b2)) (TPair n (tree_at t a1) (tree_at t a2)) ≤ coercion_work l (tree_at s b) (TPair n (tree_at s a1) (tree_at s a2)) =
+        subst (λ y. coercion_work y (TPair n (tree_at t b1) (tree_at t b2)) (TPair n (tree_at t a1) (tree_at t a2)) ≤ coercion_work l (tree_at s b) (TPair n (tree_at s a1) (tree_at s a2))) (sym k.lookups)
+        (rw (k.stored.trees a1 h.to.node, k.stored.trees a2 j.node) (head_work l ordered (tree_at s b) (TPair n (tree_at t b1) (tree_at t b2)) (TPair n (tree_at s a1) (tree_at s a2)) d)) in
+    follows_under k.lookups y (parts_same g n a b1 b2 a1 a2 k h.context h.term h.to j ∙ sym (pair_case l (context_at s g.items) (tree_at s a) (tree_at s b) n (tree_at t b1) (tree_at t b2) (tree_at s a1) (tree_at s a2) d)) w
+
+pub pair_fault : {s t : Stored} {P Q : Sort → Ref → Type 0} {l m : Lookups} (g : Context) (n a b f b1 b2 a1 a2 : ℕ) (x : TypeFault) → Keeps s P l t Q m → IsKnownCoercion s P g a b a1 → IsKnown s P OfType a2
+    → head l (tree_at s b) ≡ Ok (tree_at t f) → tree_at t f ≡ TPair n (tree_at t b1) (tree_at t b2)
+    → IsFault (coerce_parts (coerce m) (context_at t g.items) (tree_at t a) n (tree_at t b1) (tree_at t b2) (tree_at t a1) (tree_at t a2)) x
+    → IsFault (coerce_to l (coerce l) (context_at s g.items) (tree_at s a) (tree_at s b) (TPair n (tree_at s a1) (tree_at s a2))) x
+pair_fault {s} {t} {l = l} g n a b f b1 b2 a1 a2 x k h j e i y =
+    fault_as _ _ x (pair_case l (context_at s g.items) (tree_at s a) (tree_at s b) n (tree_at t b1) (tree_at t b2) (tree_at s a1) (tree_at s a2) (e ∙ ap (λ z. Ok z) i) ∙ sym (parts_same g n a b1 b2 a1 a2 k h.context h.term h.to j)) y
