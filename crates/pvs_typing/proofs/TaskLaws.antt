@@ -2,7 +2,6 @@
 use Rattle.std.proofs.Common.{◌≡◌, ℕ, zero, suc, ◌+◌, ◌<◌, ◌≤◌, Bool, true, false, cond, eqb, List, [], ◌∷◌, ◌++◌, append_assoc, eq-eqb, Option, Some, None, Result, Ok, Err, refl, ap, ap₂, ◌∙◌, sym, subst, arith}
 use Rattle.std.specs.Prelude.{IfOk}
 use Rattle.std.proofs.lemmas.Result.{IfOk-at_ok}
-use Rattle.std.proofs.lemmas.Bool.{eqb-true}
 use Rattle.pvs_base.specs.Answers as answers
 use Rattle.pvs_base.specs.declared.code.Code.{Code}
 use Rattle.pvs_base.specs.declared.code.Code.TheVariants.{Mismatch, TooLarge}
@@ -16,6 +15,7 @@ use Rattle.pvs_terms.specs.declared.node.Node.TheVariants as node
 use Rattle.pvs_terms.specs.Stored.{Stored, tree_at, node_tree}
 use Rattle.pvs_subst.specs.Replace.{put_in}
 use Rattle.pvs_subst.specs.Contexts.{Assumptions, Variable, context_at}
+use Rattle.pvs_subst.specs.declared.context.Assumed.TheVariants as assumed
 use Rattle.pvs_subst.specs.declared.context.Condition.{Condition}
 use Rattle.pvs_subst.specs.declared.context.Context.{Context}
 use Rattle.pvs_sig.specs.Lookups.{Lookups, type_size, IsOrdered}
@@ -38,8 +38,8 @@ use Rattle.pvs_typing.specs.Growth.{IsKnown, IsKnownContext, Keeps}
 use Rattle.pvs_typing.specs.Answers.{IsFault, IsRefusal, Gives, tree_option}
 use Rattle.pvs_typing.specs.Owed.{condition_at, conditions_at, IsKnownCondition, AreKnownConditions}
 use Rattle.pvs_typing.specs.code.Tasks.{head_outcome, satisfy_outcome, second_outcome, apply_outcome, task_outcome, stack_outcome, next_outcome, IsKnownCoercion, IsKnownTask, AreKnownTasks, IsKnownNext, steps_bound, coercion_work, task_work, stack_work, next_work, Follows, tasks_after, conditions_after}
-use Rattle.pvs_typing.proofs.GrowthLaws.{known_kept, context_kept}
-use Rattle.pvs_typing.proofs.PartLaws.{fits_within}
+use Rattle.pvs_typing.proofs.GrowthLaws.{keeps_trans, known_kept, context_kept}
+use Rattle.pvs_typing.proofs.PartLaws.{fits_within, gives_kept}
 use Rattle.pvs_typing.proofs.OwedLaws.{after_none, after_then, accepted_then, context_same}
 
 -- The first case, and those after it.
@@ -69,6 +69,12 @@ module _ (l : Lookups) (ordered : IsOrdered l) (g : Assumptions) (t b a : Tree) 
   pub coerce_above_fault : (e : TypeFault) → IsRefusal (is_above l b a) e → IsFault (coerce l g t b a) e
   coerce_above_fault (fault.Refused c) h = rule ∙ by_fault (up l b) c (coerce_to l (coerce l) g t b a) h
   coerce_above_fault fault.Memory h = tt
+
+-- Steps in turn.
+
+pub then_assoc : (o u v : Outcome (Unit {0})) → ((o >> u) >> v) ≡ (o >> (u >> v))
+then_assoc (Refused c) u v = refl
+then_assoc (Accepted a cs rs) u v = sym (after_then cs rs u (λ _. v))
 
 -- A step that is answered by a result.
 
@@ -262,40 +268,6 @@ pub pair_case : (l : Lookups) (g : Assumptions) (t b : Tree) (n : ℕ) (b1 b2 a1
 pair_case l g t b n b1 b2 a1 a2 h =
     result_then (head l b) (coerce_pair (coerce l) g t n a1 a2) (TPair n b1 b2) h ∙ ap (λ x. cond x (coerce_parts (coerce l) g t n b1 b2 a1 a2) (refuse Mismatch)) (eq-eqb n n refl)
 
-pub pair_counts : (l : Lookups) (g : Assumptions) (t b : Tree) (j n : ℕ) (b1 b2 a1 a2 : Tree) → head l b ≡ Ok (TPair j b1 b2) → (j ≡ n → ⊥)
-    → coerce_to l (coerce l) g t b (TPair n a1 a2) ≡ Refused Mismatch
-pair_counts l g t b j n b1 b2 a1 a2 h k =
-    result_then (head l b) (coerce_pair (coerce l) g t n a1 a2) (TPair j b1 b2) h ∙ ap (λ x. cond x (coerce_parts (coerce l) g t n b1 b2 a1 a2) (refuse Mismatch)) (go (eqb j n) refl)
-  where
-    go : (x : Bool) → eqb j n ≡ x → eqb j n ≡ false
-    go true e = absurd (k (eqb-true j n e))
-    go false e = e
-
-abbrev pub IsNoPair : Node → Type 0
-IsNoPair n = (k a b : ℕ) → n ≡ node.TPair k a b → ⊥
-
-no_pair : (go : Lookups) (s : Stored) (g : Assumptions) (t : Tree) (k : ℕ) (a b : Tree) (n : Node) → IsNoPair n → coerce_pair (coerce go) g t k a b (node_tree s n) ≡ Refused Mismatch
-no_pair l s g t k a b (node.TPair j x y) h = absurd (h j x y refl)
-no_pair l s g t k a b node.TBool h = refl
-no_pair l s g t k a b (node.TName r) h = refl
-no_pair l s g t k a b (node.TSub x y) h = refl
-no_pair l s g t k a b (node.TFun x y) h = refl
-no_pair l s g t k a b (node.Tup j x y) h = refl
-no_pair l s g t k a b (node.Var n) h = refl
-no_pair l s g t k a b (node.Const r) h = refl
-no_pair l s g t k a b node.True h = refl
-no_pair l s g t k a b node.False h = refl
-no_pair l s g t k a b (node.Lam x y) h = refl
-no_pair l s g t k a b (node.App x y) h = refl
-no_pair l s g t k a b (node.Fst j x) h = refl
-no_pair l s g t k a b (node.Snd j x) h = refl
-no_pair l s g t k a b (node.If x y z) h = refl
-no_pair l s g t k a b (node.Eq x y) h = refl
-
-pub pair_none : (l : Lookups) (s : Stored) (g : Assumptions) (t b d : Tree) (k : ℕ) (a1 a2 : Tree) (n : Node) → head l b ≡ Ok d → d ≡ node_tree s n → IsNoPair n
-    → coerce_to l (coerce l) g t b (TPair k a1 a2) ≡ Refused Mismatch
-pair_none l s g t b d k a1 a2 n h e j = result_then (head l b) (coerce_pair (coerce l) g t k a1 a2) d h ∙ ap (coerce_pair (coerce l) g t k a1 a2) e ∙ no_pair l s g t k a1 a2 n j
-
 pub head_smaller : (l : Lookups) → IsOrdered l → (b d : Tree) → head l b ≡ Ok d → type_size l.rank d ≤ type_size l.rank b
 head_smaller l ordered b d e = IfOk-at_ok (λ u. type_size l.rank u ≤ type_size l.rank b) e (head_size l ordered b)
 
@@ -329,3 +301,63 @@ pub pair_fault : {s t : Stored} {P Q : Sort → Ref → Type 0} {l m : Lookups} 
     → IsFault (coerce_to l (coerce l) (context_at s g.items) (tree_at s a) (tree_at s b) (TPair n (tree_at s a1) (tree_at s a2))) x
 pair_fault {s} {t} {l = l} g n a b f b1 b2 a1 a2 x k h j e i y =
     fault_as _ _ x (pair_case l (context_at s g.items) (tree_at s a) (tree_at s b) n (tree_at t b1) (tree_at t b2) (tree_at s a1) (tree_at s a2) (e ∙ ap (λ z. Ok z) i) ∙ sym (parts_same g n a b1 b2 a1 a2 k h.context h.term h.to j)) y
+
+-- between function types
+pub application_follows : {s : Stored} {P : Sort → Ref → Type 0} (l : Lookups) (g : Context) (a d1 d2 r1 r2 : ℕ) → IsKnownCoercion s P g a d1 d2 → IsKnownCoercion s P g a r1 r2 → tree_eq (tree_at s d1) (tree_at s d2) ≡ true
+    → Follows l s P (coerce_function (coerce l) (context_at s g.items) (tree_at s a) (tree_at s d2) (tree_at s r2) (TFun (tree_at s d1) (tree_at s r1)))
+    (coercion_work l (TFun (tree_at s d1) (tree_at s r1)) (TFun (tree_at s d2) (tree_at s r2))) (One (Apply g d1 a r1 r2))
+application_follows {s} l g a d1 d2 r1 r2 h1 h2 e =
+    let c : Assumptions = context_at s g.items in
+    let f : Outcome (Unit {0}) = apply_outcome l c (tree_at s d1) (tree_at s a) (tree_at s r1) (tree_at s r2) in
+    let both : Outcome (Unit {0}) = within_limits (lift_one (tree_at s d1)) >>= (λ x. within_limits (lift_one (tree_at s d2)) >>= (λ y.
+        coerce l (Variable (tree_at s d1) ∷ c) (Var 0) x y >> coerce l (Variable (tree_at s d2) ∷ c) (Var 0) y x)) in
+    record {
+      known = (h1.from, h2);
+      outcome = sym (ap (λ x. cond x (pure tt) both >> f) e ∙ after_none f);
+      less = omega (
+        arith,
+        bound_less (type_size l.rank (tree_at s r1) + type_size l.rank (tree_at s r2)) (suc (type_size l.rank (tree_at s d1) + type_size l.rank (tree_at s r1)) + suc (type_size l.rank (tree_at s d2) + type_size l.rank (tree_at s r2))) (omega arith),
+      );
+    }
+
+pub domains_follow : {s t u : Stored} {P Q R : Sort → Ref → Type 0} {l m n : Lookups} (f1 f2 g : Context) (a d1 d2 r1 r2 c1 c2 v : ℕ) → Keeps s P l t Q m → Keeps t Q m u R n → f1.items ≡ assumed.Bind d1 ∷ g.items → f2.items ≡ assumed.Bind d2 ∷ g.items
+    → IsKnownCoercion s P g a d1 d2 → IsKnownCoercion s P g a r1 r2 → tree_eq (tree_at s d1) (tree_at s d2) ≡ false
+    → Gives t Q OfType (lift_one (tree_at s d1)) c1 → Gives t Q OfType (lift_one (tree_at s d2)) c2 → Gives u R OfTerm (Var 0) v
+    → Follows l u R (coerce_function (coerce l) (context_at s g.items) (tree_at s a) (tree_at s d2) (tree_at s r2) (TFun (tree_at s d1) (tree_at s r1)))
+    (coercion_work l (TFun (tree_at s d1) (tree_at s r1)) (TFun (tree_at s d2) (tree_at s r2))) (Three (Coerce f1 v c1 c2) (Coerce f2 v c2 c1) (Apply g d1 a r1 r2))
+domains_follow {s} {t} {u} {P} {Q} {R} {l} f1 f2 g a d1 d2 r1 r2 c1 c2 v k1 k2 e1 e2 h1 h2 e x1 x2 y =
+    let k = keeps_trans k1 k2 in
+    let z1 = gives_kept k2 x1 in
+    let z2 = gives_kept k2 x2 in
+    let c : Assumptions = context_at s g.items in
+    let t1 : Tree = tree_at s d1 in
+    let t2 : Tree = tree_at s d2 in
+    let f : Outcome (Unit {0}) = apply_outcome l c t1 (tree_at s a) (tree_at s r1) (tree_at s r2) in
+    let last : Tree → Tree → Outcome (Unit {0}) = λ x y. coerce l (Variable t1 ∷ c) (Var 0) x y >> coerce l (Variable t2 ∷ c) (Var 0) y x in
+    let both : Outcome (Unit {0}) = within_limits (lift_one t1) >>= (λ x. within_limits (lift_one t2) >>= (λ y. last x y)) in
+    let there : coerce l (context_at u f1.items) (tree_at u v) (tree_at u c1) (tree_at u c2) ≡ coerce l (Variable t1 ∷ c) (Var 0) (lift_one t1) (lift_one t2) =
+        rw (e1, k.stored.trees d1 h1.from.node, context_same g.items k h1.context, y.tree, z1.tree, z2.tree) refl in
+    let back : coerce l (context_at u f2.items) (tree_at u v) (tree_at u c2) (tree_at u c1) ≡ coerce l (Variable t2 ∷ c) (Var 0) (lift_one t2) (lift_one t1) =
+        rw (e2, k.stored.trees d2 h1.to.node, context_same g.items k h1.context, y.tree, z1.tree, z2.tree) refl in
+    let m1 : type_size l.rank (tree_at u c1) ≡ type_size l.rank t1 = ap (type_size l.rank) z1.tree ∙ type_size-lift l.rank t1 1 0 in
+    let m2 : type_size l.rank (tree_at u c2) ≡ type_size l.rank t2 = ap (type_size l.rank) z2.tree ∙ type_size-lift l.rank t2 1 0 in
+    let m3 : type_size l.rank (tree_at u r1) ≡ type_size l.rank (tree_at s r1) = ap (type_size l.rank) (k.stored.trees r1 h2.from.node) in
+    let m4 : type_size l.rank (tree_at u r2) ≡ type_size l.rank (tree_at s r2) = ap (type_size l.rank) (k.stored.trees r2 h2.to.node) in
+    let p1 = size_positive l.rank t1 in
+    let p2 = size_positive l.rank t2 in
+    let p3 = size_positive l.rank (tree_at s r1) in
+    let p4 = size_positive l.rank (tree_at s r2) in
+    let swap : type_size l.rank (tree_at u c2) + type_size l.rank (tree_at u c1) ≡ type_size l.rank (tree_at u c1) + type_size l.rank (tree_at u c2) = omega arith in
+    let inside : IsKnownContext u R g.items = context_kept g.items k h1.context in
+    record {
+      known = (
+        record { context = subst (IsKnownContext u R) (sym e1) (known_kept OfType d1 k h1.from, inside); term = y.known; from = z1.known; to = z2.known },
+        record { context = subst (IsKnownContext u R) (sym e2) (known_kept OfType d2 k h1.to, inside); term = y.known; from = z2.known; to = z1.known },
+        (known_kept OfType d1 k h1.from, coercion_kept k g a r1 r2 h2),
+      );
+      outcome = rw (there, back, task_same k l (Apply g d1 a r1 r2) (h1.from, h2))
+          (sym (ap (λ x. cond x (pure tt) both >> f) e ∙ ap (λ x. x >> f) (accepted_then (within_limits (lift_one t1)) (λ x. within_limits (lift_one t2) >>= (λ y. last x y)) (lift_one t1) (fits_within (lift_one t1) x1.fits)
+          ∙ accepted_then (within_limits (lift_one t2)) (λ y. last (lift_one t1) y) (lift_one t2) (fits_within (lift_one t2) x2.fits)) ∙ then_assoc _ _ f));
+      less = rw swap (bound_three (type_size l.rank (tree_at u c1) + type_size l.rank (tree_at u c2)) (type_size l.rank (tree_at u r1) + type_size l.rank (tree_at u r2))
+          (suc (type_size l.rank t1 + type_size l.rank (tree_at s r1)) + suc (type_size l.rank t2 + type_size l.rank (tree_at s r2))) (omega (arith, m1, m2, p3, p4)) (omega (arith, m3, m4, p1, p2)));
+    }
