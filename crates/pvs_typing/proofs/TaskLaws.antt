@@ -361,3 +361,31 @@ domains_follow {s} {t} {u} {P} {Q} {R} {l} f1 f2 g a d1 d2 r1 r2 c1 c2 v k1 k2 e
       less = rw swap (bound_three (type_size l.rank (tree_at u c1) + type_size l.rank (tree_at u c2)) (type_size l.rank (tree_at u r1) + type_size l.rank (tree_at u r2))
           (suc (type_size l.rank t1 + type_size l.rank (tree_at s r1)) + suc (type_size l.rank t2 + type_size l.rank (tree_at s r2))) (omega (arith, m1, m2, p3, p4)) (omega (arith, m3, m4, p1, p2)));
     }
+
+-- the head is a function type
+function_case : (l : Lookups) (g : Assumptions) (t b : Tree) (b1 b2 a1 a2 : Tree) → head l b ≡ Ok (TFun b1 b2)
+    → coerce_to l (coerce l) g t b (TFun a1 a2) ≡ coerce_function (coerce l) g t a1 a2 (TFun b1 b2)
+function_case l g t b b1 b2 a1 a2 h = result_then (head l b) (coerce_function (coerce l) g t a1 a2) (TFun b1 b2) h
+
+function_same : {s t : Stored} {P Q : Sort → Ref → Type 0} {l m : Lookups} (g : Context) (a b1 b2 a1 a2 : ℕ) → Keeps s P l t Q m → IsKnownContext s P g.items → IsKnown s P OfTerm a → IsKnown s P OfType a1 → IsKnown s P OfType a2
+    → coerce_function (coerce m) (context_at t g.items) (tree_at t a) (tree_at t a1) (tree_at t a2) (TFun (tree_at t b1) (tree_at t b2))
+    ≡ coerce_function (coerce l) (context_at s g.items) (tree_at s a) (tree_at s a1) (tree_at s a2) (TFun (tree_at t b1) (tree_at t b2))
+function_same g a b1 b2 a1 a2 k c x y z = rw (k.lookups, context_same g.items k c, k.stored.trees a x.node, k.stored.trees a1 y.node, k.stored.trees a2 z.node) refl
+
+pub function_follows : {s t : Stored} {P Q : Sort → Ref → Type 0} {l m : Lookups} (u : Stored) (R : Sort → Ref → Type 0) (g : Context) (a b f b1 b2 a1 a2 : ℕ) (x : Next) → IsOrdered l → Keeps s P l t Q m → IsKnownCoercion s P g a b a1 → IsKnown s P OfType a2
+    → head l (tree_at s b) ≡ Ok (tree_at t f) → tree_at t f ≡ TFun (tree_at t b1) (tree_at t b2)
+    → Follows m u R (coerce_function (coerce m) (context_at t g.items) (tree_at t a) (tree_at t a1) (tree_at t a2) (TFun (tree_at t b1) (tree_at t b2))) (coercion_work m (TFun (tree_at t b1) (tree_at t b2)) (TFun (tree_at t a1) (tree_at t a2))) x
+    → Follows l u R (coerce_to l (coerce l) (context_at s g.items) (tree_at s a) (tree_at s b) (TFun (tree_at s a1) (tree_at s a2))) (coercion_work l (tree_at s b) (TFun (tree_at s a1) (tree_at s a2))) x
+function_follows {s} {t} {l = l} {m} u R g a b f b1 b2 a1 a2 x ordered k h j e i y =
+    let d : head l (tree_at s b) ≡ Ok (TFun (tree_at t b1) (tree_at t b2)) = e ∙ ap (λ z. Ok z) i in
+    let w : coercion_work m (TFun (tree_at t b1) (tree_at t b2)) (TFun (tree_at t a1) (tree_at t a2)) ≤ coercion_work l (tree_at s b) (TFun (tree_at s a1) (tree_at s a2)) =
+        subst (λ y. coercion_work y (TFun (tree_at t b1) (tree_at t b2)) (TFun (tree_at t a1) (tree_at t a2)) ≤ coercion_work l (tree_at s b) (TFun (tree_at s a1) (tree_at s a2))) (sym k.lookups)
+        (rw (k.stored.trees a1 h.to.node, k.stored.trees a2 j.node) (head_work l ordered (tree_at s b) (TFun (tree_at t b1) (tree_at t b2)) (TFun (tree_at s a1) (tree_at s a2)) d)) in
+    follows_under k.lookups y (function_same g a b1 b2 a1 a2 k h.context h.term h.to j ∙ sym (function_case l (context_at s g.items) (tree_at s a) (tree_at s b) (tree_at t b1) (tree_at t b2) (tree_at s a1) (tree_at s a2) d)) w
+
+pub function_fault : {s t : Stored} {P Q : Sort → Ref → Type 0} {l m : Lookups} (g : Context) (a b f b1 b2 a1 a2 : ℕ) (x : TypeFault) → Keeps s P l t Q m → IsKnownCoercion s P g a b a1 → IsKnown s P OfType a2
+    → head l (tree_at s b) ≡ Ok (tree_at t f) → tree_at t f ≡ TFun (tree_at t b1) (tree_at t b2)
+    → IsFault (coerce_function (coerce m) (context_at t g.items) (tree_at t a) (tree_at t a1) (tree_at t a2) (TFun (tree_at t b1) (tree_at t b2))) x
+    → IsFault (coerce_to l (coerce l) (context_at s g.items) (tree_at s a) (tree_at s b) (TFun (tree_at s a1) (tree_at s a2))) x
+function_fault {s} {t} {l = l} g a b f b1 b2 a1 a2 x k h j e i y =
+    fault_as _ _ x (function_case l (context_at s g.items) (tree_at s a) (tree_at s b) (tree_at t b1) (tree_at t b2) (tree_at s a1) (tree_at s a2) (e ∙ ap (λ z. Ok z) i) ∙ sym (function_same g a b1 b2 a1 a2 k h.context h.term h.to j)) y
