@@ -12,7 +12,7 @@ use Rattle.pvs_terms.specs.declared.shape.Binder.TheVariants.{Subtype, Function,
 use Rattle.pvs_terms.specs.Sorts.{sort_of, IsTerm, IsSorted}
 use Rattle.pvs_terms.specs.declared.node.Node.{Node}
 use Rattle.pvs_terms.specs.declared.node.Node.TheVariants as node
-use Rattle.pvs_terms.specs.Stored.{Stored, tree_at, node_tree}
+use Rattle.pvs_terms.specs.Stored.{Stored, tree_at, node_tree, Stands}
 use Rattle.pvs_subst.specs.Replace.{put_in}
 use Rattle.pvs_subst.specs.Contexts.{Assumptions, Variable, context_at}
 use Rattle.pvs_subst.specs.declared.context.Assumed.TheVariants as assumed
@@ -37,9 +37,9 @@ use Rattle.pvs_typing.specs.Above.{is_above}
 use Rattle.pvs_typing.specs.Growth.{IsKnown, IsKnownContext, Keeps}
 use Rattle.pvs_typing.specs.Answers.{IsFault, IsRefusal, Gives, tree_option}
 use Rattle.pvs_typing.specs.Owed.{condition_at, conditions_at, IsKnownCondition, AreKnownConditions}
-use Rattle.pvs_typing.specs.code.Tasks.{head_outcome, satisfy_outcome, second_outcome, apply_outcome, task_outcome, stack_outcome, next_outcome, IsKnownCoercion, IsKnownTask, AreKnownTasks, IsKnownNext, steps_bound, coercion_work, task_work, stack_work, next_work, Follows, tasks_after, conditions_after}
+use Rattle.pvs_typing.specs.code.Tasks.{both, both_within, head_outcome, satisfy_outcome, second_outcome, apply_outcome, task_outcome, stack_outcome, next_outcome, IsKnownCoercion, IsKnownTask, AreKnownTasks, IsKnownNext, steps_bound, coercion_work, task_work, stack_work, next_work, Follows, tasks_after, conditions_after}
 use Rattle.pvs_typing.proofs.GrowthLaws.{keeps_trans, known_kept, context_kept}
-use Rattle.pvs_typing.proofs.PartLaws.{fits_within, gives_kept}
+use Rattle.pvs_typing.proofs.PartLaws.{fits_within, gives_kept, put_gives}
 use Rattle.pvs_typing.proofs.OwedLaws.{after_none, after_then, accepted_then, context_same}
 
 -- The first case, and those after it.
@@ -75,6 +75,12 @@ module _ (l : Lookups) (ordered : IsOrdered l) (g : Assumptions) (t b a : Tree) 
 pub then_assoc : (o u v : Outcome (Unit {0})) → ((o >> u) >> v) ≡ (o >> (u >> v))
 then_assoc (Refused c) u v = refl
 then_assoc (Accepted a cs rs) u v = sym (after_then cs rs u (λ _. v))
+
+-- the first refusal of two steps
+pub both_refused : (o u : Outcome Tree) (f : Tree → Tree → Outcome (Unit {0})) (q : Code) → both o u ≡ Refused q → (o >>= (λ x. u >>= (λ y. f x y))) ≡ Refused q
+both_refused (Refused d) u f q h = let e : d ≡ q = cc in ap Refused e
+both_refused (Accepted x cs rs) (Refused d) f q h = let e : d ≡ q = cc in ap Refused e
+both_refused (Accepted x cs rs) (Accepted y ds ss) f q h = cc
 
 -- A step that is answered by a result.
 
@@ -389,3 +395,66 @@ pub function_fault : {s t : Stored} {P Q : Sort → Ref → Type 0} {l m : Looku
     → IsFault (coerce_to l (coerce l) (context_at s g.items) (tree_at s a) (tree_at s b) (TFun (tree_at s a1) (tree_at s a2))) x
 function_fault {s} {t} {l = l} g a b f b1 b2 a1 a2 x k h j e i y =
     fault_as _ _ x (function_case l (context_at s g.items) (tree_at s a) (tree_at s b) (tree_at t b1) (tree_at t b2) (tree_at s a1) (tree_at s a2) (e ∙ ap (λ z. Ok z) i) ∙ sym (function_same g a b1 b2 a1 a2 k h.context h.term h.to j)) y
+
+-- the predicate of a subtype
+pub satisfy_follows : {s t : Stored} {P Q : Sort → Ref → Type 0} {l m : Lookups} (n : Lookups) (g : Context) (p a goal : ℕ) → Keeps s P l t Q m → IsKnownContext s P g.items → IsKnown s P OfTerm p → IsKnown s P OfTerm a
+    → Stands t (put_in (tree_at s p) (tree_at s a)) goal
+    → Follows n t Q (satisfy_outcome (context_at s g.items) (tree_at s p) (tree_at s a)) 1 (Owe (record { context = g; goal = goal }))
+satisfy_follows {s} {t} {P} {Q} n g p a goal k c x y h =
+    let z = put_gives OfTerm p a goal k x y h in
+    let u : Tree = put_in (tree_at s p) (tree_at s a) in
+    record {
+      known = record { context = context_kept g.items k c; goal = z.known };
+      outcome = rw (context_same g.items k c, z.tree) (sym (accepted_then (within_limits u) (owe (context_at s g.items)) u (fits_within u z.fits)));
+      less = omega arith;
+    }
+
+-- the second component
+pub second_follows : {s t u : Stored} {P Q R : Sort → Ref → Type 0} {l m n : Lookups} (g : Context) (j a f b c x y z : ℕ) → Keeps s P l t Q m → Keeps t Q m u R n → IsKnownCoercion s P g a b c → IsKnown s P OfTerm f
+    → Gives t Q OfTerm (second_part j (tree_at s a)) x → Gives u R OfType (put_in (tree_at t b) (tree_at t f)) y → Gives u R OfType (put_in (tree_at t c) (tree_at t f)) z
+    → Follows l u R (second_outcome l (context_at s g.items) (tree_at s a) j (tree_at s f) (tree_at s b) (tree_at s c)) (suc (coercion_work l (tree_at s b) (tree_at s c))) (One (Coerce g x y z))
+second_follows {s} {t} {u} {P} {Q} {R} {l} g j a f b c x y z k1 k2 h i vx vy vz =
+    let k = keeps_trans k1 k2 in
+    let wx = gives_kept k2 vx in
+    let tx : Tree = second_part j (tree_at s a) in
+    let tb : Tree = put_in (tree_at s b) (tree_at s f) in
+    let tc : Tree = put_in (tree_at s c) (tree_at s f) in
+    let eb : put_in (tree_at t b) (tree_at t f) ≡ tb = rw (k1.stored.trees b h.from.node, k1.stored.trees f i.node) refl in
+    let ec : put_in (tree_at t c) (tree_at t f) ≡ tc = rw (k1.stored.trees c h.to.node, k1.stored.trees f i.node) refl in
+    let go : Tree → Tree → Tree → Outcome (Unit {0}) = coerce l (context_at s g.items) in
+    record {
+      known = record { context = context_kept g.items k h.context; term = wx.known; from = vy.known; to = vz.known };
+      outcome = rw (context_same g.items k h.context, wx.tree, vy.tree, vz.tree, eb, ec)
+          (sym (accepted_then (within_limits tx) (λ v. within_limits tb >>= (λ w. within_limits tc >>= (λ q. go v w q))) tx (fits_within tx vx.fits)
+          ∙ accepted_then (within_limits tb) (λ w. within_limits tc >>= (λ q. go tx w q)) tb (fits_within tb (subst IsWithinLimits eb vy.fits))
+          ∙ accepted_then (within_limits tc) (λ q. go tx tb q) tc (fits_within tc (subst IsWithinLimits ec vz.fits))));
+      less = rw (vy.tree, vz.tree, eb, ec, type_size-put_in l.rank (tree_at s b) (tree_at s f) i.sort, type_size-put_in l.rank (tree_at s c) (tree_at s f) i.sort) (omega arith);
+    }
+
+pub second_fault : {s t : Stored} {P Q : Sort → Ref → Type 0} {l m : Lookups} (n : Lookups) (g : Assumptions) (j a f b c x : ℕ) (e : TypeFault) → Keeps s P l t Q m → IsKnown s P OfTerm f → IsKnown s P OfType b → IsKnown s P OfType c
+    → Gives t Q OfTerm (second_part j (tree_at s a)) x → IsFault (both_within (put_in (tree_at t b) (tree_at t f)) (put_in (tree_at t c) (tree_at t f))) e
+    → IsFault (second_outcome n g (tree_at s a) j (tree_at s f) (tree_at s b) (tree_at s c)) e
+second_fault {s} n g j a f b c x fault.Memory k h i o v r = tt
+second_fault {s} {t} n g j a f b c x (fault.Refused q) k h i o v r =
+    let tx : Tree = second_part j (tree_at s a) in
+    let tb : Tree = put_in (tree_at s b) (tree_at s f) in
+    let tc : Tree = put_in (tree_at s c) (tree_at s f) in
+    let eb : put_in (tree_at t b) (tree_at t f) ≡ tb = rw (k.stored.trees b i.node, k.stored.trees f h.node) refl in
+    let ec : put_in (tree_at t c) (tree_at t f) ≡ tc = rw (k.stored.trees c o.node, k.stored.trees f h.node) refl in
+    let go : Tree → Tree → Tree → Outcome (Unit {0}) = coerce n g in
+    let w : both_within tb tc ≡ Refused q = rw (eb, ec) at r in
+    accepted_then (within_limits tx) (λ v. within_limits tb >>= (λ w. within_limits tc >>= (λ p. go v w p))) tx (fits_within tx v.fits)
+    ∙ both_refused (within_limits tb) (within_limits tc) (go tx) q w
+
+-- the application
+pub apply_follows : {s t : Stored} {P Q : Sort → Ref → Type 0} {l m : Lookups} (f g : Context) (d a b c x : ℕ) → Keeps s P l t Q m → f.items ≡ assumed.Bind d ∷ g.items → IsKnown s P OfType d → IsKnownCoercion s P g a b c
+    → Gives t Q OfTerm (application (tree_at s d) (tree_at s a)) x
+    → Follows l t Q (apply_outcome l (context_at s g.items) (tree_at s d) (tree_at s a) (tree_at s b) (tree_at s c)) (suc (coercion_work l (tree_at s b) (tree_at s c))) (One (Coerce f x b c))
+apply_follows {s} {t} {P} {Q} {l} f g d a b c x k e n h v =
+    let u : Tree = application (tree_at s d) (tree_at s a) in
+    record {
+      known = record { context = subst (IsKnownContext t Q) (sym e) (known_kept OfType d k n, context_kept g.items k h.context); term = v.known; from = known_kept OfType b k h.from; to = known_kept OfType c k h.to };
+      outcome = rw (e, k.stored.trees d n.node, context_same g.items k h.context, v.tree, k.stored.trees b h.from.node, k.stored.trees c h.to.node)
+          (sym (accepted_then (within_limits u) (λ y. coerce l (Variable (tree_at s d) ∷ context_at s g.items) y (tree_at s b) (tree_at s c)) u (fits_within u v.fits)));
+      less = rw (k.stored.trees b h.from.node, k.stored.trees c h.to.node) (omega arith);
+    }

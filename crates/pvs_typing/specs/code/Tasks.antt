@@ -132,9 +132,13 @@ conditions_after cs (One x) = cs
 conditions_after cs (Two x y) = cs
 conditions_after cs (Three x y z) = cs
 
--- two lifted types, each within the limits
-abbrev pub both_lifted : Tree → Tree → Outcome (Tree × Tree)
-both_lifted a b = do
-  c ← within_limits (lift_one a)
-  d ← within_limits (lift_one b)
+-- two steps that each give a tree
+abbrev pub both : Outcome Tree → Outcome Tree → Outcome (Tree × Tree)
+both o u = do
+  c ← o
+  d ← u
   pure (c, d)
+
+-- two trees, the first of which is to be within the limits first
+abbrev pub both_within : Tree → Tree → Outcome (Tree × Tree)
+both_within a b = both (within_limits a) (within_limits b)
