@@ -458,3 +458,52 @@ apply_follows {s} {t} {P} {Q} {l} f g d a b c x k e n h v =
           (sym (accepted_then (within_limits u) (λ y. coerce l (Variable (tree_at s d) ∷ context_at s g.items) y (tree_at s b) (tree_at s c)) u (fits_within u v.fits)));
       less = rw (k.stored.trees b h.from.node, k.stored.trees c h.to.node) (omega arith);
     }
+
+-- to a type of no other form
+abbrev pub IsOtherNode : Node → Type 0
+IsOtherNode n = ((r : ℕ) → n ≡ node.TName r → ⊥) × ((a p : ℕ) → n ≡ node.TSub a p → ⊥) × ((k a b : ℕ) → n ≡ node.TPair k a b → ⊥) × ((a b : ℕ) → n ≡ node.TFun a b → ⊥)
+
+other_case : (l : Lookups) (s : Stored) (g : Assumptions) (t b : Tree) (n : Node) → sort_of (node_tree s n) ≡ OfType → IsOtherNode n → coerce_to l (coerce l) g t b (node_tree s n) ≡ head_outcome l b (node_tree s n)
+other_case l s g t b node.TBool o h = refl
+other_case l s g t b (node.TName r) o h = absurd (h.0 r refl)
+other_case l s g t b (node.TSub a p) o h = absurd (h.1 a p refl)
+other_case l s g t b (node.TPair k x y) o h = absurd (h.2 k x y refl)
+other_case l s g t b (node.TFun x y) o h = absurd (h.3 x y refl)
+other_case l s g t b (node.Var n) o h = cc
+other_case l s g t b (node.Const r) o h = cc
+other_case l s g t b node.True o h = cc
+other_case l s g t b node.False o h = cc
+other_case l s g t b (node.Lam x y) o h = cc
+other_case l s g t b (node.App x y) o h = cc
+other_case l s g t b (node.Tup k x y) o h = cc
+other_case l s g t b (node.Fst k x) o h = cc
+other_case l s g t b (node.Snd k x) o h = cc
+other_case l s g t b (node.If x y z) o h = cc
+other_case l s g t b (node.Eq x y) o h = cc
+
+pub other_done : (l : Lookups) (s t : Stored) (Q : Sort → Ref → Type 0) (g : Assumptions) (a b c : Tree) (n : Node) → c ≡ node_tree s n → sort_of c ≡ OfType → IsOtherNode n → head_outcome l b c ≡ pure tt
+    → Follows l t Q (coerce_to l (coerce l) g a b c) (coercion_work l b c) Done
+other_done l s t Q g a b c n e o h x =
+    done_follows l t Q (coerce_to l (coerce l) g a b c) b c (rw e (other_case l s g a b n (rw e at o) h) ∙ rw e at x)
+
+-- The first case.
+
+pub above_follows : (l : Lookups) → IsOrdered l → (s : Stored) (P : Sort → Ref → Type 0) (g : Assumptions) (t b a : Tree) → IsSorted t → IsTerm t → is_above l b a ≡ Ok true → Follows l s P (coerce l g t b a) (coercion_work l b a) Done
+above_follows l ordered s P g t b a i h e = done_follows l s P (coerce l g t b a) b a (coerce_above l ordered g t b a i h e)
+
+pub to_follows : {s t : Stored} {P Q : Sort → Ref → Type 0} {l m : Lookups} (u : Stored) (R : Sort → Ref → Type 0) (g : Context) (a b c : ℕ) (x : Next) → IsOrdered l → Keeps s P l t Q m → IsKnownCoercion s P g a b c → IsSorted (tree_at s a)
+    → is_above l (tree_at s b) (tree_at s c) ≡ Ok false
+    → Follows m u R (coerce_to m (coerce m) (context_at t g.items) (tree_at t a) (tree_at t b) (tree_at t c)) (coercion_work m (tree_at t b) (tree_at t c)) x
+    → Follows l u R (coerce l (context_at s g.items) (tree_at s a) (tree_at s b) (tree_at s c)) (coercion_work l (tree_at s b) (tree_at s c)) x
+to_follows {s} {l = l} u R g a b c x ordered k h i e y =
+    let z : Follows l u R (coerce_to l (coerce l) (context_at s g.items) (tree_at s a) (tree_at s b) (tree_at s c)) (coercion_work l (tree_at s b) (tree_at s c)) x =
+        rw (k.lookups, context_same g.items k h.context, k.stored.trees a h.term.node, k.stored.trees b h.from.node, k.stored.trees c h.to.node) at y in
+    follows_as z (sym (coerce_not_above l ordered (context_at s g.items) (tree_at s a) (tree_at s b) (tree_at s c) i h.term.sort e)) (omega arith)
+
+pub to_fault : {s t : Stored} {P Q : Sort → Ref → Type 0} {l m : Lookups} (g : Context) (a b c : ℕ) (e : TypeFault) → IsOrdered l → Keeps s P l t Q m → IsKnownCoercion s P g a b c → IsSorted (tree_at s a)
+    → is_above l (tree_at s b) (tree_at s c) ≡ Ok false → IsFault (coerce_to m (coerce m) (context_at t g.items) (tree_at t a) (tree_at t b) (tree_at t c)) e
+    → IsFault (coerce l (context_at s g.items) (tree_at s a) (tree_at s b) (tree_at s c)) e
+to_fault {s} {l = l} g a b c e ordered k h i o y =
+    let z : IsFault (coerce_to l (coerce l) (context_at s g.items) (tree_at s a) (tree_at s b) (tree_at s c)) e =
+        rw (k.lookups, context_same g.items k h.context, k.stored.trees a h.term.node, k.stored.trees b h.from.node, k.stored.trees c h.to.node) at y in
+    fault_as _ _ e (coerce_not_above l ordered (context_at s g.items) (tree_at s a) (tree_at s b) (tree_at s c) i h.term.sort o) z
