@@ -4,3 +4,4 @@ pub mod OwedLaws
 pub mod NodeLaws
 pub mod PartLaws
 pub mod TaskLaws
+pub mod StackLaws
