@@ -143,7 +143,7 @@ pub last_known : (s : Stored) (P : Sort → Ref → Type 0) (xs ts : List Task) 
 last_known s P xs ts x e h = (known_split s P xs x (subst (AreKnownTasks s P) e h)).1
 
 -- what is owed from nothing on, where no symbol is used
-pub owes_judges : (s : Stored) (o : Outcome (Unit {0})) (cs bs : List Condition) (rs : List ℕ) → Uses [] o → Owes s (conditions_at s bs) o tt cs → bs ≡ [] → rs ≡ [] → Judges s o tt cs rs
-owes_judges s o cs bs rs u h e i =
-    let k : o ≡ Accepted tt (conditions_at s cs) h.symbols = sym (after_none o) ∙ ap (λ x. outcome_after (conditions_at s x) [] o) (sym e) ∙ h.is in
+pub owes_judges : (r s : Stored) (o : Outcome (Unit {0})) (cs bs : List Condition) (rs : List ℕ) → Uses [] o → Owes s (conditions_at r bs) o tt cs → bs ≡ [] → rs ≡ [] → Judges s o tt cs rs
+owes_judges r s o cs bs rs u h e i =
+    let k : o ≡ Accepted tt (conditions_at s cs) h.symbols = sym (after_none o) ∙ ap (λ x. outcome_after (conditions_at r x) [] o) (sym e) ∙ h.is in
     record { symbols = h.symbols; is = k; uses = rw i (subst (Uses []) k u) }

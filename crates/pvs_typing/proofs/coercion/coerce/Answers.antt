@@ -11,5 +11,5 @@ returns-clause-ok g c =
     let a = c.args in
     let s = t.stored a.theories.now in
     let l = t.lookups a.theories.now a.theory in
-    owes_judges (t.stored c.coerce_of.new.theories) (coerce l (context_at s a.g.now.items) (tree_at s a.term) (tree_at s a.from) (tree_at s a.to)) c.coerce_of.new.conditions.items c.new-conditions.result.items c.new.result.items
+    owes_judges s (t.stored c.coerce_of.new.theories) (coerce l (context_at s a.g.now.items) (tree_at s a.term) (tree_at s a.from) (tree_at s a.to)) c.coerce_of.new.conditions.items c.new-conditions.result.items c.new.result.items
     (coerce_silent l (context_at s a.g.now.items) (tree_at s a.term) (tree_at s a.from) (tree_at s a.to)) c.in_ok-coerce_of.ensures.ok c.new-conditions.ensures.items c.new.ensures.items
