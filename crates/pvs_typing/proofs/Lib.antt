@@ -5,3 +5,4 @@ pub mod NodeLaws
 pub mod PartLaws
 pub mod TaskLaws
 pub mod StackLaws
+pub mod MentionLaws
