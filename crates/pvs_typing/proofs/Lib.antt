@@ -6,3 +6,4 @@ pub mod PartLaws
 pub mod TaskLaws
 pub mod StackLaws
 pub mod MentionLaws
+pub mod GeneralLaws
