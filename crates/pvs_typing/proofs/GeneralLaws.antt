@@ -256,3 +256,17 @@ descent_fault {t} {l = l} {r = r} fs i e h k x = frames_fault l t fs (most l (tr
 
 pub enters_at : {l : Lookups} {s : Stored} {P : Sort → Ref → Type 0} {t : Tree} {x : Inside} (o : Option ℕ) → Enters l s P t x → x.ty ≡ o → Enters l s P t (record { frame = x.frame; ty = o })
 enters_at {l} {s} {P} {t} {x} o h e = subst (λ y. Enters l s P t (record { frame = x.frame; ty = y })) e h
+
+frame_positive : (l : Lookups) (s : Stored) (f : Frame) → 1 ≤ frame_work l s f
+frame_positive l s (Range a) = omega arith
+frame_positive l s (Others k a) = omega arith
+frame_positive l s (First k b) = omega arith
+
+pub leave_less : {s t : Stored} {P Q : Sort → Ref → Type 0} {l m : Lookups} (n : Lookups) (fs : List Frame) (f : Frame) → Keeps s P l t Q m → AreKnownFrames s P fs → frames_work n t fs < frames_work n s fs + frame_work n s f
+leave_less {s} n fs f k h = rw (frames_work_same k n fs h) (omega (arith, frame_positive n s f))
+
+pub leave_fault : (l : Lookups) (s : Stored) (fs : List Frame) (x y : Result Tree Code) (e : TypeFault) → x ≡ y → IsRefusal y e → IsRefusal (frames_result l s fs x) e
+leave_fault l s fs x y e h k = frame_refusal l s fs x e (subst (λ z. IsRefusal z e) (sym h) k)
+
+pub frame_at : (l : Lookups) (s : Stored) (f g : Frame) (i : ℕ) → f ≡ g → frame_result l s f (Ok (tree_at s i)) ≡ frame_result l s g (Ok (tree_at s i))
+frame_at l s f g i e = ap (λ y. frame_result l s y (Ok (tree_at s i))) e
