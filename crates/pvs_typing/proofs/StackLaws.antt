@@ -1,5 +1,5 @@
 -- Tasks that are left, and the conditions that are owed so far.
-use Rattle.std.proofs.Common.{◌≡◌, ℕ, suc, ◌+◌, ◌<◌, List, [], ◌∷◌, ◌++◌, refl, ap, ap₂, ◌∙◌, sym, subst, arith}
+use Rattle.std.proofs.Common.{◌≡◌, ℕ, ◌+◌, ◌<◌, List, [], ◌∷◌, ◌++◌, refl, ap, ap₂, ◌∙◌, sym, subst, arith}
 use Rattle.pvs_base.specs.declared.code.Code.{Code}
 use Rattle.pvs_terms.specs.Tree.{Ref}
 use Rattle.pvs_terms.specs.declared.shape.Sort.{Sort}
@@ -8,7 +8,7 @@ use Rattle.pvs_subst.specs.Contexts.{context_at}
 use Rattle.pvs_subst.specs.declared.context.Condition.{Condition}
 use Rattle.pvs_subst.specs.declared.context.Context.{Context}
 use Rattle.pvs_sig.specs.Lookups.{Lookups}
-use Rattle.pvs_types.specs.Outcome.{Conditions, Outcome, Refused, Accepted, outcome_after, ◌>>=◌, ◌>>◌, pure}
+use Rattle.pvs_types.specs.Outcome.{Conditions, Outcome, Refused, Accepted, outcome_after, ◌>>◌, pure}
 use Rattle.pvs_types.specs.Coerce.{coerce}
 use Rattle.pvs_types.specs.Uses.{Uses}
 use Rattle.pvs_typing.specs.declared.fault.TypeFault.{TypeFault}
@@ -104,7 +104,7 @@ loop_goes_on {t} {u} {Q} {R} {l} {o = o} cs ds xs ts us x y h e i k f c d =
     let known = known_split t Q xs x (subst (AreKnownTasks t Q) e h.tasks) in
     let f : Follows l u R (task_outcome l t x) (task_work l t x) y = rw i at f in
     let now : outcome_after (conditions_at u cs) [] (next_outcome l u y >> stack_outcome l u xs (pure tt)) ≡ outcome_after (conditions_at t cs) [] (task_outcome l t x >> stack_outcome l t xs (pure tt)) =
-        rw (conditions_same cs k h.conditions, f.outcome, stack_same k l xs (pure tt) known.0) refl in
+    rw (conditions_same cs k h.conditions, f.outcome, stack_same k l xs (pure tt) known.0) refl in
     record {
       tasks = rw d (tasks_added u R xs y (tasks_kept k xs known.0) f.known);
       conditions = rw c (conditions_added u R cs y (conditions_kept cs k h.conditions) f.known);

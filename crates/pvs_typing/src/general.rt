@@ -169,11 +169,7 @@ fn is_mentioned<T: Theories>(theories: &T, id: Id) -> bool
 }
 
 /// The most general form of a type.
-pub(crate) fn most_of<T: Theories>(
-    theories: &mut T,
-    theory: Name,
-    ty: Id,
-) -> Result<Id, TypeFault>
+pub(crate) fn most_of<T: Theories>(theories: &mut T, theory: Name, ty: Id) -> Result<Id, TypeFault>
     requires theory { IsName (T.stored theories.old) theory }
     requires ty { IsKnown (T.stored theories.old) (T.declares theories.old theory) OfType ty }
     requires ordered { IsOrdered (T.lookups theories.old theory) }

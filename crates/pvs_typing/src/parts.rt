@@ -78,11 +78,7 @@ pub(crate) fn second_part<T: Theories>(
 }
 
 /// A type under one more variable.
-fn lift_type<T: Theories>(
-    theories: &mut T,
-    _theory: Name,
-    id: Id,
-) -> Result<Id, TypeFault>
+fn lift_type<T: Theories>(theories: &mut T, _theory: Name, id: Id) -> Result<Id, TypeFault>
     requires theory { IsName (T.stored theories.old) _theory }
     requires id { IsKnown (T.stored theories.old) (T.declares theories.old _theory) OfType id }
     ensures ok { IfOk result (Gives (T.stored theories.new) (T.declares theories.new _theory) OfType (lift_one (tree_at (T.stored theories.old) id))) }
@@ -114,10 +110,7 @@ pub(crate) fn lift_both<T: Theories>(
 }
 
 /// The variable of a new binder.
-pub(crate) fn new_variable<T: Theories>(
-    theories: &mut T,
-    _theory: Name,
-) -> Result<Id, TypeFault>
+pub(crate) fn new_variable<T: Theories>(theories: &mut T, _theory: Name) -> Result<Id, TypeFault>
     requires theory { IsName (T.stored theories.old) _theory }
     ensures ok { IfOk result (Gives (T.stored theories.new) (T.declares theories.new _theory) OfTerm (Var 0)) }
     ensures refused { IfErr result IsMemory }

@@ -31,7 +31,7 @@ returns-in_ok-next-in-TPair-clause-ok g c =
     let n = c.args.components in
     let w = t.stored c.head_of.new.theories in
     let tree : tree_at w c.in_ok-form.form ≡ TPair n (tree_at w c.in-TPair.first_from) (tree_at w c.in-TPair.others_from) =
-        c.in-TPair.ensures.tree ∙ ap (λ k. TPair k (tree_at w c.in-TPair.first_from) (tree_at w c.in-TPair.others_from)) c.if-count-components.false in
+    c.in-TPair.ensures.tree ∙ ap (λ k. TPair k (tree_at w c.in-TPair.first_from) (tree_at w c.in-TPair.others_from)) c.if-count-components.false in
     pair_follows (t.stored c.between_pairs.new.theories) (t.declares c.between_pairs.new.theories c.args.theory) c.args.context n c.args.term c.args.from c.in_ok-form.form c.in-TPair.first_from c.in-TPair.others_from c.args.first c.args.others c.in_ok-next-in-TPair.next
     c.requires.ordered c.in_ok-form.ensures.kept c.requires.first c.requires.others c.in_ok-form.ensures.ok tree c.in_ok-next-in-TPair.ensures.ok
 
@@ -42,6 +42,6 @@ returns-in_err-next-in-TPair-clause-refused g c =
     let w = t.stored c.head_of.new.theories in
     let p = err_from_is_err_and c.from_residual-in_err-next-in-TPair.result c.from_residual-in_err-next-in-TPair.ensures.1 in
     let tree : tree_at w c.in_ok-form.form ≡ TPair n (tree_at w c.in-TPair.first_from) (tree_at w c.in-TPair.others_from) =
-        c.in-TPair.ensures.tree ∙ ap (λ k. TPair k (tree_at w c.in-TPair.first_from) (tree_at w c.in-TPair.others_from)) c.if-count-components.false in
+    c.in-TPair.ensures.tree ∙ ap (λ k. TPair k (tree_at w c.in-TPair.first_from) (tree_at w c.in-TPair.others_from)) c.if-count-components.false in
     rw (p.1, p.2) (pair_fault c.args.context n c.args.term c.args.from c.in_ok-form.form c.in-TPair.first_from c.in-TPair.others_from c.args.first c.args.others c.in_err-next-in-TPair.field-0.0
     c.in_ok-form.ensures.kept c.requires.first c.requires.others c.in_ok-form.ensures.ok tree c.in_err-next-in-TPair.ensures.refused)
