@@ -34,6 +34,11 @@ abbrev pub IsFault : {A : Type 0} → Outcome A → TypeFault → Type 0
 IsFault o (Refused c) = o ≡ outcome.Refused c
 IsFault o Memory = Unit {0}
 
+-- a fault that only being out of memory can be
+abbrev pub IsMemory : TypeFault → Type 0
+IsMemory (Refused c) = ⊥
+IsMemory Memory = Unit {0}
+
 abbrev pub tree_option : Stored → Option ℕ → Option Tree
 tree_option s None = None
 tree_option s (Some i) = Some (tree_at s i)

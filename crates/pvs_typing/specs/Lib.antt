@@ -1,3 +1,6 @@
 pub mod Growth
 pub mod Answers
 pub mod Above
+pub mod Nodes
+pub mod Owed
+pub mod code

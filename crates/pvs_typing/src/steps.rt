@@ -1,0 +1,524 @@
+//! The steps of a coercion, by the seven cases.
+
+ghost use Rattle.std.specs.Prelude.{◌≡◌, ◌≤◌, ◌∷◌, suc, false, Ok, IfOk, IfErr};
+ghost use Rattle.pvs_terms.specs.Tree.{TName, TSub, TFun, TPair, tree_eq};
+ghost use Rattle.pvs_terms.specs.declared.shape.Sort.TheVariants.{OfType, OfTerm};
+ghost use Rattle.pvs_terms.specs.Stored.{IsName, IsRef, tree_at, ref_at};
+ghost use Rattle.pvs_subst.specs.Contexts.{context_at};
+ghost use Rattle.pvs_sig.specs.Lookups.{IsOrdered};
+ghost use Rattle.pvs_types.specs.Outcome.{pure};
+ghost use Rattle.pvs_types.specs.Coerce.{coerce, coerce_to, coerce_parts, coerce_function};
+ghost use Rattle.pvs_typing.specs.Above.{is_above};
+ghost use Rattle.pvs_typing.specs.Growth.{IsKnown, IsKnownContext, Keeps};
+ghost use Rattle.pvs_typing.specs.Answers.{IsFault, IsRefusal};
+ghost use Rattle.pvs_typing.specs.code.Tasks.{Follows, IsKnownCoercion, IsKnownTask, apply_outcome, coercion_work, head_outcome, satisfy_outcome, second_outcome, task_outcome, task_work};
+
+use crate::contexts::{copy_context, enter_context};
+use crate::fault::TypeFault;
+use crate::forms::{head_of, up_of};
+use crate::nodes::{is_same, known_node};
+use crate::parts::{
+    application, first_part, is_among, lift_both, new_variable, second_part, substitute_both,
+};
+use crate::tasks::{Next, Task};
+use crate::theories::Theories;
+use pvs_base::Code;
+use pvs_subst::{Assumed, Condition, Context};
+use pvs_terms::{Id, Name, Node, RefId};
+
+/// Whether a type is another one, or above it.
+fn is_above<T: Theories>(
+    theories: &mut T,
+    theory: Name,
+    from: Id,
+    to: Id,
+) -> Result<bool, TypeFault>
+    requires theory { IsName (T.stored theories.old) theory }
+    requires from { IsKnown (T.stored theories.old) (T.declares theories.old theory) OfType from }
+    requires to { IsKnown (T.stored theories.old) (T.declares theories.old theory) OfType to }
+    requires ordered { IsOrdered (T.lookups theories.old theory) }
+    ensures ok { IfOk result (λ b. is_above (T.lookups theories.old theory) (tree_at (T.stored theories.old) from) (tree_at (T.stored theories.old) to) ≡ Ok b) }
+    ensures refused { IfErr result (IsRefusal (is_above (T.lookups theories.old theory) (tree_at (T.stored theories.old) from) (tree_at (T.stored theories.old) to))) }
+    ensures kept { Keeps (T.stored theories.old) (T.declares theories.old theory) (T.lookups theories.old theory) (T.stored theories.new) (T.declares theories.new theory) (T.lookups theories.new theory) }
+{
+    let types = up_of(theories, theory, from)?;
+    let found = is_among(theories, theory, to, &types);
+    Ok(found)
+}
+
+/// Nothing, where the head of the one type is the other.
+fn same_head<T: Theories>(theories: &mut T, theory: Name, from: Id, to: Id) -> Result<(), TypeFault>
+    requires theory { IsName (T.stored theories.old) theory }
+    requires from { IsKnown (T.stored theories.old) (T.declares theories.old theory) OfType from }
+    requires to { IsKnown (T.stored theories.old) (T.declares theories.old theory) OfType to }
+    requires ordered { IsOrdered (T.lookups theories.old theory) }
+    ensures ok { IfOk result (λ _. head_outcome (T.lookups theories.old theory) (tree_at (T.stored theories.old) from) (tree_at (T.stored theories.old) to) ≡ pure tt) }
+    ensures refused { IfErr result (IsFault (head_outcome (T.lookups theories.old theory) (tree_at (T.stored theories.old) from) (tree_at (T.stored theories.old) to))) }
+    ensures kept { Keeps (T.stored theories.old) (T.declares theories.old theory) (T.lookups theories.old theory) (T.stored theories.new) (T.declares theories.new theory) (T.lookups theories.new theory) }
+{
+    let form = head_of(theories, theory, from)?;
+    if is_same(theories, form, to) {
+        Ok(())
+    } else {
+        Err(TypeFault::Refused(Code::Mismatch))
+    }
+}
+
+/// To a name: as to its body where it has one, and else from a type of this head.
+fn to_name<T: Theories>(
+    theories: &mut T,
+    theory: Name,
+    context: Context,
+    term: Id,
+    from: Id,
+    to: Id,
+    r: RefId,
+) -> Result<Next, TypeFault>
+    requires theory { IsName (T.stored theories.old) theory }
+    requires coercion { IsKnownCoercion (T.stored theories.old) (T.declares theories.old theory) context term from to }
+    requires r { IsRef (T.stored theories.old) r }
+    requires is { tree_at (T.stored theories.old) to ≡ TName (ref_at (T.stored theories.old) r) }
+    requires ordered { IsOrdered (T.lookups theories.old theory) }
+    ensures ok { IfOk result (Follows (T.lookups theories.old theory) (T.stored theories.new) (T.declares theories.new theory) (coerce_to (T.lookups theories.old theory) (coerce (T.lookups theories.old theory)) (context_at (T.stored theories.old) context.items) (tree_at (T.stored theories.old) term) (tree_at (T.stored theories.old) from) (TName (ref_at (T.stored theories.old) r))) (coercion_work (T.lookups theories.old theory) (tree_at (T.stored theories.old) from) (TName (ref_at (T.stored theories.old) r)))) }
+    ensures refused { IfErr result (IsFault (coerce_to (T.lookups theories.old theory) (coerce (T.lookups theories.old theory)) (context_at (T.stored theories.old) context.items) (tree_at (T.stored theories.old) term) (tree_at (T.stored theories.old) from) (TName (ref_at (T.stored theories.old) r)))) }
+    ensures kept { Keeps (T.stored theories.old) (T.declares theories.old theory) (T.lookups theories.old theory) (T.stored theories.new) (T.declares theories.new theory) (T.lookups theories.new theory) }
+{
+    match theories.body_of(theory, r)? {
+        None => {
+            same_head(theories, theory, from, to)?;
+            Ok(Next::Done)
+        }
+        Some(body) => Ok(Next::One(Task::Coerce {
+            context,
+            term,
+            from,
+            to: body,
+        })),
+    }
+}
+
+/// To a predicate subtype: to its supertype, and then the predicate is owed.
+fn to_subtype<T: Theories>(
+    theories: &T,
+    _theory: Name,
+    context: Context,
+    term: Id,
+    from: Id,
+    supertype: Id,
+    predicate: Id,
+) -> Result<Next, TypeFault>
+    requires theory { IsName (T.stored theories.now) _theory }
+    requires coercion { IsKnownCoercion (T.stored theories.now) (T.declares theories.now _theory) context term from supertype }
+    requires predicate { IsKnown (T.stored theories.now) (T.declares theories.now _theory) OfTerm predicate }
+    ensures ok { IfOk result (Follows (T.lookups theories.now _theory) (T.stored theories.now) (T.declares theories.now _theory) (coerce_to (T.lookups theories.now _theory) (coerce (T.lookups theories.now _theory)) (context_at (T.stored theories.now) context.items) (tree_at (T.stored theories.now) term) (tree_at (T.stored theories.now) from) (TSub (tree_at (T.stored theories.now) supertype) (tree_at (T.stored theories.now) predicate))) (coercion_work (T.lookups theories.now _theory) (tree_at (T.stored theories.now) from) (TSub (tree_at (T.stored theories.now) supertype) (tree_at (T.stored theories.now) predicate)))) }
+    ensures refused { IfErr result (IsFault (coerce_to (T.lookups theories.now _theory) (coerce (T.lookups theories.now _theory)) (context_at (T.stored theories.now) context.items) (tree_at (T.stored theories.now) term) (tree_at (T.stored theories.now) from) (TSub (tree_at (T.stored theories.now) supertype) (tree_at (T.stored theories.now) predicate)))) }
+{
+    let alloc = theories.store().allocator();
+    let outer = copy_context(alloc, &context)?;
+    Ok(Next::Two(
+        Task::Coerce {
+            context: outer,
+            term,
+            from,
+            to: supertype,
+        },
+        Task::Satisfy {
+            context,
+            predicate,
+            term,
+        },
+    ))
+}
+
+/// Between tuple types with as many components: the first component, and then the others.
+fn between_pairs<T: Theories>(
+    theories: &mut T,
+    theory: Name,
+    context: Context,
+    term: Id,
+    components: u32,
+    first_from: Id,
+    first_to: Id,
+    others_from: Id,
+    others_to: Id,
+) -> Result<Next, TypeFault>
+    requires theory { IsName (T.stored theories.old) theory }
+    requires first { IsKnownCoercion (T.stored theories.old) (T.declares theories.old theory) context term first_from first_to }
+    requires others { IsKnownCoercion (T.stored theories.old) (T.declares theories.old theory) context term others_from others_to }
+    requires components { 2 ≤ components }
+    ensures ok { IfOk result (Follows (T.lookups theories.old theory) (T.stored theories.new) (T.declares theories.new theory) (coerce_parts (coerce (T.lookups theories.old theory)) (context_at (T.stored theories.old) context.items) (tree_at (T.stored theories.old) term) components (tree_at (T.stored theories.old) first_from) (tree_at (T.stored theories.old) others_from) (tree_at (T.stored theories.old) first_to) (tree_at (T.stored theories.old) others_to)) (coercion_work (T.lookups theories.old theory) (TPair components (tree_at (T.stored theories.old) first_from) (tree_at (T.stored theories.old) others_from)) (TPair components (tree_at (T.stored theories.old) first_to) (tree_at (T.stored theories.old) others_to)))) }
+    ensures refused { IfErr result (IsFault (coerce_parts (coerce (T.lookups theories.old theory)) (context_at (T.stored theories.old) context.items) (tree_at (T.stored theories.old) term) components (tree_at (T.stored theories.old) first_from) (tree_at (T.stored theories.old) others_from) (tree_at (T.stored theories.old) first_to) (tree_at (T.stored theories.old) others_to))) }
+    ensures kept { Keeps (T.stored theories.old) (T.declares theories.old theory) (T.lookups theories.old theory) (T.stored theories.new) (T.declares theories.new theory) (T.lookups theories.new theory) }
+{
+    let alloc = theories.store().allocator();
+    let first = first_part(theories, theory, components, term)?;
+    let outer = copy_context(alloc, &context)?;
+    Ok(Next::Two(
+        Task::Coerce {
+            context: outer,
+            term: first,
+            from: first_from,
+            to: first_to,
+        },
+        Task::Second {
+            context,
+            components,
+            term,
+            first,
+            from: others_from,
+            to: others_to,
+        },
+    ))
+}
+
+/// To a tuple type, from one with as many components.
+fn to_pair<T: Theories>(
+    theories: &mut T,
+    theory: Name,
+    context: Context,
+    term: Id,
+    from: Id,
+    components: u32,
+    first: Id,
+    others: Id,
+) -> Result<Next, TypeFault>
+    requires theory { IsName (T.stored theories.old) theory }
+    requires first { IsKnownCoercion (T.stored theories.old) (T.declares theories.old theory) context term from first }
+    requires others { IsKnown (T.stored theories.old) (T.declares theories.old theory) OfType others }
+    requires components { 2 ≤ components }
+    requires ordered { IsOrdered (T.lookups theories.old theory) }
+    ensures ok { IfOk result (Follows (T.lookups theories.old theory) (T.stored theories.new) (T.declares theories.new theory) (coerce_to (T.lookups theories.old theory) (coerce (T.lookups theories.old theory)) (context_at (T.stored theories.old) context.items) (tree_at (T.stored theories.old) term) (tree_at (T.stored theories.old) from) (TPair components (tree_at (T.stored theories.old) first) (tree_at (T.stored theories.old) others))) (coercion_work (T.lookups theories.old theory) (tree_at (T.stored theories.old) from) (TPair components (tree_at (T.stored theories.old) first) (tree_at (T.stored theories.old) others)))) }
+    ensures refused { IfErr result (IsFault (coerce_to (T.lookups theories.old theory) (coerce (T.lookups theories.old theory)) (context_at (T.stored theories.old) context.items) (tree_at (T.stored theories.old) term) (tree_at (T.stored theories.old) from) (TPair components (tree_at (T.stored theories.old) first) (tree_at (T.stored theories.old) others)))) }
+    ensures kept { Keeps (T.stored theories.old) (T.declares theories.old theory) (T.lookups theories.old theory) (T.stored theories.new) (T.declares theories.new theory) (T.lookups theories.new theory) }
+{
+    let form = head_of(theories, theory, from)?;
+    match known_node(theories, theory, form) {
+        Node::TPair(count, first_from, others_from) => {
+            if count != components {
+                return Err(TypeFault::Refused(Code::Mismatch));
+            }
+            let next = between_pairs(
+                theories,
+                theory,
+                context,
+                term,
+                components,
+                first_from,
+                first,
+                others_from,
+                others,
+            )?;
+            Ok(next)
+        }
+        _ => Err(TypeFault::Refused(Code::Mismatch)),
+    }
+}
+
+/// Between function types with different domains: a variable of each domain to the other, and then the
+/// application.
+fn between_domains<T: Theories>(
+    theories: &mut T,
+    theory: Name,
+    context: Context,
+    term: Id,
+    domain_from: Id,
+    domain_to: Id,
+    range_from: Id,
+    range_to: Id,
+) -> Result<Next, TypeFault>
+    requires theory { IsName (T.stored theories.old) theory }
+    requires domains { IsKnownCoercion (T.stored theories.old) (T.declares theories.old theory) context term domain_from domain_to }
+    requires ranges { IsKnownCoercion (T.stored theories.old) (T.declares theories.old theory) context term range_from range_to }
+    requires different { tree_eq (tree_at (T.stored theories.old) domain_from) (tree_at (T.stored theories.old) domain_to) ≡ false }
+    ensures ok { IfOk result (Follows (T.lookups theories.old theory) (T.stored theories.new) (T.declares theories.new theory) (coerce_function (coerce (T.lookups theories.old theory)) (context_at (T.stored theories.old) context.items) (tree_at (T.stored theories.old) term) (tree_at (T.stored theories.old) domain_to) (tree_at (T.stored theories.old) range_to) (TFun (tree_at (T.stored theories.old) domain_from) (tree_at (T.stored theories.old) range_from))) (coercion_work (T.lookups theories.old theory) (TFun (tree_at (T.stored theories.old) domain_from) (tree_at (T.stored theories.old) range_from)) (TFun (tree_at (T.stored theories.old) domain_to) (tree_at (T.stored theories.old) range_to)))) }
+    ensures refused { IfErr result (IsFault (coerce_function (coerce (T.lookups theories.old theory)) (context_at (T.stored theories.old) context.items) (tree_at (T.stored theories.old) term) (tree_at (T.stored theories.old) domain_to) (tree_at (T.stored theories.old) range_to) (TFun (tree_at (T.stored theories.old) domain_from) (tree_at (T.stored theories.old) range_from)))) }
+    ensures kept { Keeps (T.stored theories.old) (T.declares theories.old theory) (T.lookups theories.old theory) (T.stored theories.new) (T.declares theories.new theory) (T.lookups theories.new theory) }
+{
+    let alloc = theories.store().allocator();
+    let (above_from, above_to) = lift_both(theories, theory, domain_from, domain_to)?;
+    let term_inside = new_variable(theories, theory)?;
+    let inside_from = enter_context(alloc, &context, Assumed::Bind(domain_from))?;
+    let inside_to = enter_context(alloc, &context, Assumed::Bind(domain_to))?;
+    Ok(Next::Three(
+        Task::Coerce {
+            context: inside_from,
+            term: term_inside,
+            from: above_from,
+            to: above_to,
+        },
+        Task::Coerce {
+            context: inside_to,
+            term: term_inside,
+            from: above_to,
+            to: above_from,
+        },
+        Task::Apply {
+            context,
+            domain: domain_from,
+            term,
+            from: range_from,
+            to: range_to,
+        },
+    ))
+}
+
+/// Between function types: the domains, unless they are equal, and then the application.
+fn between_functions<T: Theories>(
+    theories: &mut T,
+    theory: Name,
+    context: Context,
+    term: Id,
+    domain_from: Id,
+    domain_to: Id,
+    range_from: Id,
+    range_to: Id,
+) -> Result<Next, TypeFault>
+    requires theory { IsName (T.stored theories.old) theory }
+    requires domains { IsKnownCoercion (T.stored theories.old) (T.declares theories.old theory) context term domain_from domain_to }
+    requires ranges { IsKnownCoercion (T.stored theories.old) (T.declares theories.old theory) context term range_from range_to }
+    ensures ok { IfOk result (Follows (T.lookups theories.old theory) (T.stored theories.new) (T.declares theories.new theory) (coerce_function (coerce (T.lookups theories.old theory)) (context_at (T.stored theories.old) context.items) (tree_at (T.stored theories.old) term) (tree_at (T.stored theories.old) domain_to) (tree_at (T.stored theories.old) range_to) (TFun (tree_at (T.stored theories.old) domain_from) (tree_at (T.stored theories.old) range_from))) (coercion_work (T.lookups theories.old theory) (TFun (tree_at (T.stored theories.old) domain_from) (tree_at (T.stored theories.old) range_from)) (TFun (tree_at (T.stored theories.old) domain_to) (tree_at (T.stored theories.old) range_to)))) }
+    ensures refused { IfErr result (IsFault (coerce_function (coerce (T.lookups theories.old theory)) (context_at (T.stored theories.old) context.items) (tree_at (T.stored theories.old) term) (tree_at (T.stored theories.old) domain_to) (tree_at (T.stored theories.old) range_to) (TFun (tree_at (T.stored theories.old) domain_from) (tree_at (T.stored theories.old) range_from)))) }
+    ensures kept { Keeps (T.stored theories.old) (T.declares theories.old theory) (T.lookups theories.old theory) (T.stored theories.new) (T.declares theories.new theory) (T.lookups theories.new theory) }
+{
+    if is_same(theories, domain_from, domain_to) {
+        return Ok(Next::One(Task::Apply {
+            context,
+            domain: domain_from,
+            term,
+            from: range_from,
+            to: range_to,
+        }));
+    }
+    let next = between_domains(
+        theories,
+        theory,
+        context,
+        term,
+        domain_from,
+        domain_to,
+        range_from,
+        range_to,
+    )?;
+    Ok(next)
+}
+
+/// To a function type.
+fn to_function<T: Theories>(
+    theories: &mut T,
+    theory: Name,
+    context: Context,
+    term: Id,
+    from: Id,
+    domain: Id,
+    range: Id,
+) -> Result<Next, TypeFault>
+    requires theory { IsName (T.stored theories.old) theory }
+    requires domain { IsKnownCoercion (T.stored theories.old) (T.declares theories.old theory) context term from domain }
+    requires range { IsKnown (T.stored theories.old) (T.declares theories.old theory) OfType range }
+    requires ordered { IsOrdered (T.lookups theories.old theory) }
+    ensures ok { IfOk result (Follows (T.lookups theories.old theory) (T.stored theories.new) (T.declares theories.new theory) (coerce_to (T.lookups theories.old theory) (coerce (T.lookups theories.old theory)) (context_at (T.stored theories.old) context.items) (tree_at (T.stored theories.old) term) (tree_at (T.stored theories.old) from) (TFun (tree_at (T.stored theories.old) domain) (tree_at (T.stored theories.old) range))) (coercion_work (T.lookups theories.old theory) (tree_at (T.stored theories.old) from) (TFun (tree_at (T.stored theories.old) domain) (tree_at (T.stored theories.old) range)))) }
+    ensures refused { IfErr result (IsFault (coerce_to (T.lookups theories.old theory) (coerce (T.lookups theories.old theory)) (context_at (T.stored theories.old) context.items) (tree_at (T.stored theories.old) term) (tree_at (T.stored theories.old) from) (TFun (tree_at (T.stored theories.old) domain) (tree_at (T.stored theories.old) range)))) }
+    ensures kept { Keeps (T.stored theories.old) (T.declares theories.old theory) (T.lookups theories.old theory) (T.stored theories.new) (T.declares theories.new theory) (T.lookups theories.new theory) }
+{
+    let form = head_of(theories, theory, from)?;
+    match known_node(theories, theory, form) {
+        Node::TFun(domain_from, range_from) => {
+            let next = between_functions(
+                theories,
+                theory,
+                context,
+                term,
+                domain_from,
+                domain,
+                range_from,
+                range,
+            )?;
+            Ok(next)
+        }
+        _ => Err(TypeFault::Refused(Code::Mismatch)),
+    }
+}
+
+/// The cases after the first, by the form of the type that is wanted.
+fn coerce_to<T: Theories>(
+    theories: &mut T,
+    theory: Name,
+    context: Context,
+    term: Id,
+    from: Id,
+    to: Id,
+) -> Result<Next, TypeFault>
+    requires theory { IsName (T.stored theories.old) theory }
+    requires coercion { IsKnownCoercion (T.stored theories.old) (T.declares theories.old theory) context term from to }
+    requires ordered { IsOrdered (T.lookups theories.old theory) }
+    ensures ok { IfOk result (Follows (T.lookups theories.old theory) (T.stored theories.new) (T.declares theories.new theory) (coerce_to (T.lookups theories.old theory) (coerce (T.lookups theories.old theory)) (context_at (T.stored theories.old) context.items) (tree_at (T.stored theories.old) term) (tree_at (T.stored theories.old) from) (tree_at (T.stored theories.old) to)) (coercion_work (T.lookups theories.old theory) (tree_at (T.stored theories.old) from) (tree_at (T.stored theories.old) to))) }
+    ensures refused { IfErr result (IsFault (coerce_to (T.lookups theories.old theory) (coerce (T.lookups theories.old theory)) (context_at (T.stored theories.old) context.items) (tree_at (T.stored theories.old) term) (tree_at (T.stored theories.old) from) (tree_at (T.stored theories.old) to))) }
+    ensures kept { Keeps (T.stored theories.old) (T.declares theories.old theory) (T.lookups theories.old theory) (T.stored theories.new) (T.declares theories.new theory) (T.lookups theories.new theory) }
+{
+    match known_node(theories, theory, to) {
+        Node::TName(r) => {
+            let next = to_name(theories, theory, context, term, from, to, r)?;
+            Ok(next)
+        }
+        Node::TSub(a, p) => {
+            let next = to_subtype(theories, theory, context, term, from, a, p)?;
+            Ok(next)
+        }
+        Node::TPair(components, a, b) => {
+            let next = to_pair(theories, theory, context, term, from, components, a, b)?;
+            Ok(next)
+        }
+        Node::TFun(a, b) => {
+            let next = to_function(theories, theory, context, term, from, a, b)?;
+            Ok(next)
+        }
+        _ => {
+            same_head(theories, theory, from, to)?;
+            Ok(Next::Done)
+        }
+    }
+}
+
+/// The cases of coercion, the first that applies.
+fn coerce_step<T: Theories>(
+    theories: &mut T,
+    theory: Name,
+    context: Context,
+    term: Id,
+    from: Id,
+    to: Id,
+) -> Result<Next, TypeFault>
+    requires theory { IsName (T.stored theories.old) theory }
+    requires coercion { IsKnownCoercion (T.stored theories.old) (T.declares theories.old theory) context term from to }
+    requires ordered { IsOrdered (T.lookups theories.old theory) }
+    ensures ok { IfOk result (Follows (T.lookups theories.old theory) (T.stored theories.new) (T.declares theories.new theory) (coerce (T.lookups theories.old theory) (context_at (T.stored theories.old) context.items) (tree_at (T.stored theories.old) term) (tree_at (T.stored theories.old) from) (tree_at (T.stored theories.old) to)) (coercion_work (T.lookups theories.old theory) (tree_at (T.stored theories.old) from) (tree_at (T.stored theories.old) to))) }
+    ensures refused { IfErr result (IsFault (coerce (T.lookups theories.old theory) (context_at (T.stored theories.old) context.items) (tree_at (T.stored theories.old) term) (tree_at (T.stored theories.old) from) (tree_at (T.stored theories.old) to))) }
+    ensures kept { Keeps (T.stored theories.old) (T.declares theories.old theory) (T.lookups theories.old theory) (T.stored theories.new) (T.declares theories.new theory) (T.lookups theories.new theory) }
+{
+    let _term = known_node(theories, theory, term);
+    if is_above(theories, theory, from, to)? {
+        return Ok(Next::Done);
+    }
+    let next = coerce_to(theories, theory, context, term, from, to)?;
+    Ok(next)
+}
+
+/// The predicate of a subtype is owed of a term.
+fn satisfy_step<T: Theories>(
+    theories: &mut T,
+    _theory: Name,
+    context: Context,
+    predicate: Id,
+    term: Id,
+) -> Result<Next, TypeFault>
+    requires theory { IsName (T.stored theories.old) _theory }
+    requires context { IsKnownContext (T.stored theories.old) (T.declares theories.old _theory) context.items }
+    requires predicate { IsKnown (T.stored theories.old) (T.declares theories.old _theory) OfTerm predicate }
+    requires term { IsKnown (T.stored theories.old) (T.declares theories.old _theory) OfTerm term }
+    ensures ok { IfOk result (Follows (T.lookups theories.old _theory) (T.stored theories.new) (T.declares theories.new _theory) (satisfy_outcome (context_at (T.stored theories.old) context.items) (tree_at (T.stored theories.old) predicate) (tree_at (T.stored theories.old) term)) (1)) }
+    ensures refused { IfErr result (IsFault (satisfy_outcome (context_at (T.stored theories.old) context.items) (tree_at (T.stored theories.old) predicate) (tree_at (T.stored theories.old) term))) }
+    ensures kept { Keeps (T.stored theories.old) (T.declares theories.old _theory) (T.lookups theories.old _theory) (T.stored theories.new) (T.declares theories.new _theory) (T.lookups theories.new _theory) }
+{
+    let goal = theories.put_in(predicate, term)?;
+    Ok(Next::Owe(Condition { context, goal }))
+}
+
+/// The other components of a tuple, with the first substituted in both types.
+fn second_step<T: Theories>(
+    theories: &mut T,
+    theory: Name,
+    context: Context,
+    components: u32,
+    term: Id,
+    first: Id,
+    from: Id,
+    to: Id,
+) -> Result<Next, TypeFault>
+    requires theory { IsName (T.stored theories.old) theory }
+    requires coercion { IsKnownCoercion (T.stored theories.old) (T.declares theories.old theory) context term from to }
+    requires first { IsKnown (T.stored theories.old) (T.declares theories.old theory) OfTerm first }
+    requires components { 2 ≤ components }
+    ensures ok { IfOk result (Follows (T.lookups theories.old theory) (T.stored theories.new) (T.declares theories.new theory) (second_outcome (T.lookups theories.old theory) (context_at (T.stored theories.old) context.items) (tree_at (T.stored theories.old) term) components (tree_at (T.stored theories.old) first) (tree_at (T.stored theories.old) from) (tree_at (T.stored theories.old) to)) (suc (coercion_work (T.lookups theories.old theory) (tree_at (T.stored theories.old) from) (tree_at (T.stored theories.old) to)))) }
+    ensures refused { IfErr result (IsFault (second_outcome (T.lookups theories.old theory) (context_at (T.stored theories.old) context.items) (tree_at (T.stored theories.old) term) components (tree_at (T.stored theories.old) first) (tree_at (T.stored theories.old) from) (tree_at (T.stored theories.old) to))) }
+    ensures kept { Keeps (T.stored theories.old) (T.declares theories.old theory) (T.lookups theories.old theory) (T.stored theories.new) (T.declares theories.new theory) (T.lookups theories.new theory) }
+{
+    let second = second_part(theories, theory, components, term)?;
+    let (second_from, second_to) = substitute_both(theories, theory, from, to, first)?;
+    Ok(Next::One(Task::Coerce {
+        context,
+        term: second,
+        from: second_from,
+        to: second_to,
+    }))
+}
+
+/// The application of a function to a new variable of the domain.
+fn apply_step<T: Theories>(
+    theories: &mut T,
+    theory: Name,
+    context: Context,
+    domain: Id,
+    term: Id,
+    from: Id,
+    to: Id,
+) -> Result<Next, TypeFault>
+    requires theory { IsName (T.stored theories.old) theory }
+    requires coercion { IsKnownCoercion (T.stored theories.old) (T.declares theories.old theory) context term from to }
+    requires domain { IsKnown (T.stored theories.old) (T.declares theories.old theory) OfType domain }
+    ensures ok { IfOk result (Follows (T.lookups theories.old theory) (T.stored theories.new) (T.declares theories.new theory) (apply_outcome (T.lookups theories.old theory) (context_at (T.stored theories.old) context.items) (tree_at (T.stored theories.old) domain) (tree_at (T.stored theories.old) term) (tree_at (T.stored theories.old) from) (tree_at (T.stored theories.old) to)) (suc (coercion_work (T.lookups theories.old theory) (tree_at (T.stored theories.old) from) (tree_at (T.stored theories.old) to)))) }
+    ensures refused { IfErr result (IsFault (apply_outcome (T.lookups theories.old theory) (context_at (T.stored theories.old) context.items) (tree_at (T.stored theories.old) domain) (tree_at (T.stored theories.old) term) (tree_at (T.stored theories.old) from) (tree_at (T.stored theories.old) to))) }
+    ensures kept { Keeps (T.stored theories.old) (T.declares theories.old theory) (T.lookups theories.old theory) (T.stored theories.new) (T.declares theories.new theory) (T.lookups theories.new theory) }
+{
+    let alloc = theories.store().allocator();
+    let applied = application(theories, theory, domain, term)?;
+    let inner = enter_context(alloc, &context, Assumed::Bind(domain))?;
+    Ok(Next::One(Task::Coerce {
+        context: inner,
+        term: applied,
+        from,
+        to,
+    }))
+}
+
+/// One task.
+pub(crate) fn step<T: Theories>(
+    theories: &mut T,
+    theory: Name,
+    task: Task,
+) -> Result<Next, TypeFault>
+    requires theory { IsName (T.stored theories.old) theory }
+    requires task { IsKnownTask (T.stored theories.old) (T.declares theories.old theory) task }
+    requires ordered { IsOrdered (T.lookups theories.old theory) }
+    ensures ok { IfOk result (Follows (T.lookups theories.old theory) (T.stored theories.new) (T.declares theories.new theory) (task_outcome (T.lookups theories.old theory) (T.stored theories.old) task) (task_work (T.lookups theories.old theory) (T.stored theories.old) task)) }
+    ensures refused { IfErr result (IsFault (task_outcome (T.lookups theories.old theory) (T.stored theories.old) task)) }
+    ensures kept { Keeps (T.stored theories.old) (T.declares theories.old theory) (T.lookups theories.old theory) (T.stored theories.new) (T.declares theories.new theory) (T.lookups theories.new theory) }
+{
+    match task {
+        Task::Coerce {
+            context,
+            term,
+            from,
+            to,
+        } => coerce_step(theories, theory, context, term, from, to),
+        Task::Satisfy {
+            context,
+            predicate,
+            term,
+        } => satisfy_step(theories, theory, context, predicate, term),
+        Task::Second {
+            context,
+            components,
+            term,
+            first,
+            from,
+            to,
+        } => second_step(theories, theory, context, components, term, first, from, to),
+        Task::Apply {
+            context,
+            domain,
+            term,
+            from,
+            to,
+        } => apply_step(theories, theory, context, domain, term, from, to),
+    }
+}
