@@ -3,3 +3,5 @@ pub mod FormsOver
 pub mod OwedLaws
 pub mod NodeLaws
 pub mod PartLaws
+pub mod JudgingLaws
+pub mod RowLaws

@@ -6,11 +6,14 @@ mod contexts;
 mod fault;
 mod forms;
 mod judged;
+mod most;
 mod nodes;
 mod parts;
+mod rows;
 mod steps;
 mod tasks;
 mod theories;
+mod typing;
 
 pub use coercion::coerce;
 pub use fault::TypeFault;

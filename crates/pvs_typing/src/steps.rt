@@ -45,12 +45,7 @@ fn is_above<T: Theories>(
 }
 
 /// Nothing, where the head of the one type is the other.
-fn same_head<T: Theories>(
-    theories: &mut T,
-    theory: Name,
-    from: Id,
-    to: Id,
-) -> Result<(), TypeFault>
+fn same_head<T: Theories>(theories: &mut T, theory: Name, from: Id, to: Id) -> Result<(), TypeFault>
     requires theory { IsName (T.stored theories.old) theory }
     requires from { IsKnown (T.stored theories.old) (T.declares theories.old theory) OfType from }
     requires to { IsKnown (T.stored theories.old) (T.declares theories.old theory) OfType to }

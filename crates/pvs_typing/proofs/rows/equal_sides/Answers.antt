@@ -1,0 +1,61 @@
+use Rattle.std.proofs.Common.{◌≡◌, ◌∷◌, [], Ok, Err, Some, None, refl, ap, ap₂, ◌∙◌, sym, subst, arith, drop, nat_eq}
+use Rattle.std.specs.Prelude.{IfOk, IfErr}
+use Rattle.pvs_terms.specs.Tree.{Tree, TBool, TFun, TPair, Fst, If, True, False}
+use Rattle.pvs_terms.specs.Stored.{tree_at, ref_at}
+use Rattle.pvs_terms.specs.declared.shape.Sort.TheVariants.{OfType, OfTerm}
+use Rattle.pvs_subst.specs.Replace.{put_in, lift}
+use Rattle.pvs_subst.specs.Contexts.{Variable, Hypothesis, context_at}
+use Rattle.pvs_types.specs.Outcome.{pure, from_result, within_limits}
+use Rattle.pvs_types.specs.Forms.{head, up, most, first_among}
+use Rattle.pvs_types.specs.Coerce.{coerce, lift_one}
+use Rattle.pvs_types.specs.Typing.{function_of, tuple_of, negation, common_type}
+use Rattle.pvs_typing.specs.Answers.{IsFault, Gives, tree_option}
+use Rattle.pvs_typing.specs.Growth.{IsKnownContext, all_at}
+use Rattle.pvs_typing.specs.Judging.{Answers}
+use Rattle.pvs_typing.specs.Owed.{conditions_at}
+use Rattle.pvs_typing.specs.code.Rows.{second_component, equal_at, equal_left, widened, widened_to, widened_other, joined, common_above}
+use Rattle.pvs_typing.proofs.GrowthLaws.{all_kept, context_kept, keeps_trans, known_at, known_kept, trees_kept}
+use Rattle.pvs_typing.proofs.OwedLaws.{after_none, conditions_kept}
+use Rattle.pvs_typing.proofs.PartLaws.{made_gives}
+use Rattle.pvs_typing.proofs.JudgingLaws.{accepts_pure, answers_as, answers_fault, answers_then, coercion_answers, form_accepts, form_fault, given_kept, given_under, made_accepts, made_answers, part_fault, pure_answers, quiet, quiet_accepts, result_err, row1, row2, row3, row4, row5, row6, then_assoc}
+use Rattle.pvs_typing.proofs.RowLaws.{common_at, common_fault, false_fits, true_fits, joined_common, pair_fits}
+use Rattle.pvs_typing.proofs.rows.equal_sides.Goals as goal
+
+pub returns-clause-answer : goal.returns-clause-answer
+returns-clause-answer g c =
+    let h = c.in_ok-common.ensures in
+    let r = c.requires in
+    let t = g.T.Theories in
+    let l = t.lookups c.args.theories.now c.args.theory in
+    row4 (equal_at) c.args.g.now.items c.args.left c.args.right c.args.left_type c.args.right_type h.kept r.given.context r.left r.right r.left_type r.right_type
+    (quiet_accepts c.args.conditions.now.items h.kept r.given.conditions (form_accepts (t.stored c.most_of.new.theories) (t.declares c.most_of.new.theories c.args.theory) (most l (tree_at (t.stored c.args.theories.now) c.args.left_type)) (tree_at (t.stored c.most_of.new.theories) c.in_ok-common.common) h.ok))
+    c.equal_at.ensures.answer
+
+pub equal_at-requires-clause-given : goal.equal_at-requires-clause-given
+equal_at-requires-clause-given g c =
+    given_kept c.in_ok-common.ensures.kept c.requires.given (conditions_kept c.args.conditions.now.items c.in_ok-common.ensures.kept c.requires.given.conditions)
+
+pub equal_at-requires-clause-left : goal.equal_at-requires-clause-left
+equal_at-requires-clause-left g c =
+    known_kept OfTerm c.args.left c.in_ok-common.ensures.kept c.requires.left
+
+pub equal_at-requires-clause-right : goal.equal_at-requires-clause-right
+equal_at-requires-clause-right g c =
+    known_kept OfTerm c.args.right c.in_ok-common.ensures.kept c.requires.right
+
+pub equal_at-requires-clause-left_type : goal.equal_at-requires-clause-left_type
+equal_at-requires-clause-left_type g c =
+    known_kept OfType c.args.left_type c.in_ok-common.ensures.kept c.requires.left_type
+
+pub equal_at-requires-clause-right_type : goal.equal_at-requires-clause-right_type
+equal_at-requires-clause-right_type g c =
+    known_kept OfType c.args.right_type c.in_ok-common.ensures.kept c.requires.right_type
+
+pub returns-clause-kept : goal.returns-clause-kept
+returns-clause-kept g c =
+    keeps_trans c.in_ok-common.ensures.kept c.equal_at.ensures.kept
+
+pub returns-in_err-common-clause-answer : goal.returns-in_err-common-clause-answer
+returns-in_err-common-clause-answer g c =
+    let l = g.T.Theories.lookups c.args.theories.now c.args.theory in
+    answers_fault (from_result (most l (tree_at (g.T.Theories.stored c.args.theories.now) c.args.left_type))) _ c.in_err-common.field-0.0 (result_err c.from_residual.result c.from_residual.ensures.1) (form_fault _ c.in_err-common.field-0.0 c.in_err-common.ensures.refused)

@@ -1,0 +1,62 @@
+use Rattle.std.proofs.Common.{◌≡◌, ◌∷◌, [], Ok, Err, Some, None, refl, ap, ap₂, ◌∙◌, sym, subst, arith, drop, nat_eq}
+use Rattle.std.specs.Prelude.{IfOk, IfErr}
+use Rattle.pvs_terms.specs.Tree.{Tree, TBool, TFun, TPair, Fst, If, True, False}
+use Rattle.pvs_terms.specs.Stored.{tree_at, ref_at}
+use Rattle.pvs_terms.specs.declared.shape.Sort.TheVariants.{OfType, OfTerm}
+use Rattle.pvs_subst.specs.Replace.{put_in, lift}
+use Rattle.pvs_subst.specs.Contexts.{Variable, Hypothesis, context_at}
+use Rattle.pvs_types.specs.Outcome.{pure, from_result, within_limits}
+use Rattle.pvs_types.specs.Forms.{head, up, most, first_among}
+use Rattle.pvs_types.specs.Coerce.{coerce, lift_one}
+use Rattle.pvs_types.specs.Typing.{function_of, tuple_of, negation, common_type}
+use Rattle.pvs_typing.specs.Answers.{IsFault, Gives, tree_option}
+use Rattle.pvs_typing.specs.Growth.{IsKnownContext, all_at}
+use Rattle.pvs_typing.specs.Judging.{Answers}
+use Rattle.pvs_typing.specs.Owed.{conditions_at}
+use Rattle.pvs_typing.specs.code.Rows.{second_component, equal_at, equal_left, widened, widened_to, widened_other, joined, common_above}
+use Rattle.pvs_typing.proofs.GrowthLaws.{all_kept, context_kept, keeps_trans, known_at, known_kept, trees_kept}
+use Rattle.pvs_typing.proofs.OwedLaws.{after_none, conditions_kept}
+use Rattle.pvs_typing.proofs.PartLaws.{made_gives}
+use Rattle.pvs_typing.proofs.JudgingLaws.{accepts_pure, answers_as, answers_fault, answers_then, coercion_answers, form_accepts, form_fault, given_kept, given_under, made_accepts, made_answers, part_fault, pure_answers, quiet, quiet_accepts, result_err, row1, row2, row3, row4, row5, row6, then_assoc}
+use Rattle.pvs_typing.proofs.RowLaws.{common_at, common_fault, false_fits, true_fits, joined_common, pair_fits}
+use Rattle.pvs_typing.proofs.rows.negated.Goals as goal
+
+pub returns-in_err-no-clause-refused : goal.returns-in_err-no-clause-refused
+returns-in_err-no-clause-refused g c =
+    let f = tree_at (g.T.Theories.stored c.args.theories.now) c.args.formula in
+    rw (result_err c.from_residual-in_err-no.result c.from_residual-in_err-no.ensures.1) (part_fault False (negation f) c.in_err-no.field-0.0 (λ _. false_fits) c.in_err-no.ensures.refused)
+
+pub returns-in_err-yes-clause-refused : goal.returns-in_err-yes-clause-refused
+returns-in_err-yes-clause-refused g c =
+    let f = tree_at (g.T.Theories.stored c.args.theories.now) c.args.formula in
+    rw (result_err c.from_residual-in_err-yes.result c.from_residual-in_err-yes.ensures.1) (part_fault True (negation f) c.in_err-yes.field-0.0 (λ _. true_fits) c.in_err-yes.ensures.refused)
+
+pub returns-in_err-yes-clause-kept : goal.returns-in_err-yes-clause-kept
+returns-in_err-yes-clause-kept g c =
+    keeps_trans c.in_ok-no.ensures.kept c.in_err-yes.ensures.kept
+
+pub choice-requires-clause-condition : goal.choice-requires-clause-condition
+choice-requires-clause-condition g c =
+    known_kept OfTerm c.args.formula (keeps_trans c.in_ok-no.ensures.kept c.in_ok-yes.ensures.kept) c.requires.formula
+
+pub choice-requires-clause-first : goal.choice-requires-clause-first
+choice-requires-clause-first g c =
+    known_kept OfTerm c.in_ok-no.no c.in_ok-yes.ensures.kept c.in_ok-no.ensures.ok.known
+
+pub returns-clause-ok : goal.returns-clause-ok
+returns-clause-ok g c =
+    let k1 = c.in_ok-no.ensures.kept in
+    let k2 = c.in_ok-yes.ensures.kept in
+    let no = c.in_ok-no.ensures.ok in
+    rw ((keeps_trans k1 k2).stored.trees c.args.formula c.requires.formula.node, k2.stored.trees c.in_ok-no.no no.known.node, no.tree, c.in_ok-yes.ensures.ok.tree) at c.choice.ensures.ok
+
+pub returns-clause-refused : goal.returns-clause-refused
+returns-clause-refused g c =
+    let k1 = c.in_ok-no.ensures.kept in
+    let k2 = c.in_ok-yes.ensures.kept in
+    let no = c.in_ok-no.ensures.ok in
+    rw ((keeps_trans k1 k2).stored.trees c.args.formula c.requires.formula.node, k2.stored.trees c.in_ok-no.no no.known.node, no.tree, c.in_ok-yes.ensures.ok.tree) at c.choice.ensures.refused
+
+pub returns-clause-kept : goal.returns-clause-kept
+returns-clause-kept g c =
+    keeps_trans (keeps_trans c.in_ok-no.ensures.kept c.in_ok-yes.ensures.kept) c.choice.ensures.kept

@@ -1,0 +1,47 @@
+use Rattle.std.proofs.Common.{◌≡◌, ◌∷◌, [], Ok, Err, Some, None, refl, ap, ap₂, ◌∙◌, sym, subst, arith, drop, nat_eq}
+use Rattle.std.specs.Prelude.{IfOk, IfErr}
+use Rattle.pvs_terms.specs.Tree.{Tree, TBool, TFun, TPair, Fst, If, True, False}
+use Rattle.pvs_terms.specs.Stored.{tree_at, ref_at}
+use Rattle.pvs_terms.specs.declared.shape.Sort.TheVariants.{OfType, OfTerm}
+use Rattle.pvs_subst.specs.Replace.{put_in, lift}
+use Rattle.pvs_subst.specs.Contexts.{Variable, Hypothesis, context_at}
+use Rattle.pvs_types.specs.Outcome.{pure, from_result, within_limits}
+use Rattle.pvs_types.specs.Forms.{head, up, most, first_among}
+use Rattle.pvs_types.specs.Coerce.{coerce, lift_one}
+use Rattle.pvs_types.specs.Typing.{function_of, tuple_of, negation, common_type}
+use Rattle.pvs_typing.specs.Answers.{IsFault, Gives, tree_option}
+use Rattle.pvs_typing.specs.Growth.{IsKnownContext, all_at}
+use Rattle.pvs_typing.specs.Judging.{Answers}
+use Rattle.pvs_typing.specs.Owed.{conditions_at}
+use Rattle.pvs_typing.specs.code.Rows.{second_component, equal_at, equal_left, widened, widened_to, widened_other, joined, common_above}
+use Rattle.pvs_typing.proofs.GrowthLaws.{all_kept, context_kept, keeps_trans, known_at, known_kept, trees_kept}
+use Rattle.pvs_typing.proofs.OwedLaws.{after_none, conditions_kept}
+use Rattle.pvs_typing.proofs.PartLaws.{made_gives}
+use Rattle.pvs_typing.proofs.JudgingLaws.{accepts_pure, answers_as, answers_fault, answers_then, coercion_answers, form_accepts, form_fault, given_kept, given_under, made_accepts, made_answers, part_fault, pure_answers, quiet, quiet_accepts, result_err, row1, row2, row3, row4, row5, row6, then_assoc}
+use Rattle.pvs_typing.proofs.RowLaws.{common_at, common_fault, false_fits, true_fits, joined_common, pair_fits}
+use Rattle.pvs_typing.proofs.rows.tuple_type.Goals as goal
+
+pub returns-clause-ok : goal.returns-clause-ok
+returns-clause-ok g c =
+    let h = c.in_ok-lifted.ensures in
+    rw (h.kept.stored.trees c.args.first c.requires.first.node, h.ok.tree) at c.pair_type.ensures.ok
+
+pub returns-clause-refused : goal.returns-clause-refused
+returns-clause-refused g c =
+    let h = c.in_ok-lifted.ensures in
+    rw (h.kept.stored.trees c.args.first c.requires.first.node, h.ok.tree) at c.pair_type.ensures.refused
+
+pub returns-clause-kept : goal.returns-clause-kept
+returns-clause-kept g c =
+    keeps_trans c.in_ok-lifted.ensures.kept c.pair_type.ensures.kept
+
+pub pair_type-requires-clause-first : goal.pair_type-requires-clause-first
+pair_type-requires-clause-first g c =
+    known_kept OfType c.args.first c.in_ok-lifted.ensures.kept c.requires.first
+
+pub returns-in_err-lifted-clause-refused : goal.returns-in_err-lifted-clause-refused
+returns-in_err-lifted-clause-refused g c =
+    let s = g.T.Theories.stored c.args.theories.now in
+    let a = tree_at s c.args.first in
+    let b = lift_one (tree_at s c.args.second) in
+    rw (result_err c.from_residual.result c.from_residual.ensures.1) (part_fault b (TPair c.args.components a b) c.in_err-lifted.field-0.0 (pair_fits c.args.components a b) c.in_err-lifted.ensures.refused)
