@@ -1,6 +1,6 @@
 //! The steps of the rows of typing that do not go into a part.
 
-ghost use Rattle.std.specs.Prelude.{◌≡◌, ◌∷◌, [], ◌≤◌, IfOk, IfErr, IfSome, IfNone, false};
+ghost use Rattle.std.specs.Prelude.{◌≡◌, ◌∷◌, [], ◌<◌, ◌≤◌, IfOk, IfErr, IfSome, IfNone, false};
 ghost use Rattle.pvs_terms.specs.declared.shape.Sort.TheVariants.{OfType, OfTerm};
 ghost use Rattle.pvs_terms.specs.Tree.{TBool, TFun, TPair, Lam, True, If, Fst};
 ghost use Rattle.pvs_terms.specs.Stored.{IsName, IsNode, IsRef, ref_at, tree_at};
@@ -288,8 +288,8 @@ pub(crate) fn first_type<T: Theories>(
     ensures known { IfOk result (IsKnown (T.stored theories.new) (T.declares theories.new theory) OfType) }
     ensures kept { Keeps (T.stored theories.old) (T.declares theories.old theory) (T.lookups theories.old theory) (T.stored theories.new) (T.declares theories.new theory) (T.lookups theories.new theory) }
 {
-    let (first, _) = tuple_parts(theories, theory, components, ty)?;
-    Ok(first)
+    let parts = tuple_parts(theories, theory, components, ty)?;
+    Ok(parts.0)
 }
 
 /// The type of the other components, with the first one in the place of the variable.
@@ -329,8 +329,8 @@ pub(crate) fn second_type<T: Theories>(
     ensures known { IfOk result (IsKnown (T.stored theories.new) (T.declares theories.new theory) OfType) }
     ensures kept { Keeps (T.stored theories.old) (T.declares theories.old theory) (T.lookups theories.old theory) (T.stored theories.new) (T.declares theories.new theory) (T.lookups theories.new theory) }
 {
-    let (_, second) = tuple_parts(theories, theory, components, ty)?;
-    second_component(theories, theory, components, tuple, second)
+    let parts = tuple_parts(theories, theory, components, ty)?;
+    second_component(theories, theory, components, tuple, parts.1)
 }
 
 /// Whether two sides of an equation are those of a FORALL: a predicate on a type, and TRUE on the
@@ -344,6 +344,8 @@ pub(crate) fn forall_parts<T: Theories>(
     requires left { IsKnown (T.stored theories.now) (T.declares theories.now theory) OfTerm left }
     requires right { IsKnown (T.stored theories.now) (T.declares theories.now theory) OfTerm right }
     ensures some { IfSome result (λ p. ((tree_at (T.stored theories.now) left) ≡ Lam (tree_at (T.stored theories.now) p.0) (tree_at (T.stored theories.now) p.1)) × ((tree_at (T.stored theories.now) right) ≡ Lam (tree_at (T.stored theories.now) p.0) True)) }
+    ensures below { IfSome result (λ p. (p.0 < left) × (p.1 < left)) }
+    ensures known { IfSome result (λ p. IsKnown (T.stored theories.now) (T.declares theories.now theory) OfType p.0 × IsKnown (T.stored theories.now) (T.declares theories.now theory) OfTerm p.1) }
     ensures none { IfNone result (is_forall (tree_at (T.stored theories.now) left) (tree_at (T.stored theories.now) right) ≡ false) }
 {
     match (theories.store().view(left), theories.store().view(right)) {
@@ -515,7 +517,8 @@ pub(crate) fn joined<T: Theories>(
     ensures known { IfOk result (IsKnown (T.stored theories.new) (T.declares theories.new theory) OfType) }
     ensures kept { Keeps (T.stored theories.old) (T.declares theories.old theory) (T.lookups theories.old theory) (T.stored theories.new) (T.declares theories.new theory) (T.lookups theories.new theory) }
 {
-    match common_above(theories, theory, first_type, second_type)? {
+    let above = common_above(theories, theory, first_type, second_type)?;
+    match above {
         Some(ty) => Ok(ty),
         None => widened(
             theories,

@@ -186,8 +186,8 @@ fn apply_at<T: Theories>(
     ensures known { IfOk result (IsKnown (T.stored theories.new) (T.declares theories.new theory) OfType) }
     ensures kept { Keeps (T.stored theories.old) (T.declares theories.old theory) (T.lookups theories.old theory) (T.stored theories.new) (T.declares theories.new theory) (T.lookups theories.new theory) }
 {
-    let (domain, range) = function_parts(theories, theory, ty)?;
-    apply_to(theories, theory, g, argument, domain, range, conditions)
+    let parts = function_parts(theories, theory, ty)?;
+    apply_to(theories, theory, g, argument, parts.0, parts.1, conditions)
 }
 
 /// An application of a function with this domain and this range.
