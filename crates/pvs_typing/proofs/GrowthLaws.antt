@@ -1,5 +1,5 @@
 -- What is known stays known where a store grows, and under replacement.
-use Rattle.std.proofs.Common.{◌≡◌, ℕ, zero, suc, List, [], ◌∷◌, refl, ap, ap₂, ◌∙◌, subst, sym}
+use Rattle.std.proofs.Common.{◌≡◌, ℕ, zero, suc, ◌<◌, List, [], ◌∷◌, length, get_or, refl, ap, ap₂, ◌∙◌, subst, sym, arith}
 use Rattle.pvs_terms.specs.Tree.{Tree, Leaf, Var, Name, Bind, Join, Project, If, Ref}
 use Rattle.pvs_terms.specs.declared.shape.Sort.{Sort}
 use Rattle.pvs_terms.specs.Sorts.{sort_of}
@@ -82,3 +82,12 @@ all_kept o (i ∷ is) k h = (known_kept o i k h.0, all_kept o is k h.1)
 pub trees_kept : {s t : Stored} {P Q : Sort → Ref → Type 0} {l m : Lookups} (o : Sort) (is : List ℕ) → Keeps s P l t Q m → AreKnown s P o is → all_at t is ≡ all_at s is
 trees_kept o [] k h = refl
 trees_kept o (i ∷ is) k h = ap₂ ◌∷◌ (k.stored.trees i h.0.node) (trees_kept o is k h.1)
+
+-- each number of a known list
+pub known_at : (s : Stored) (P : Sort → Ref → Type 0) (o : Sort) (is : List ℕ) (n i : ℕ) → AreKnown s P o is → n < length is → i ≡ get_or is n i → IsKnown s P o i
+known_at s P o is n i h l e = subst (IsKnown s P o) (sym e) (go is n h l)
+  where
+    go : (js : List ℕ) (k : ℕ) → AreKnown s P o js → k < length js → IsKnown s P o (get_or js k i)
+    go [] k h l = absurd (omega arith)
+    go (j ∷ js) zero h l = h.0
+    go (j ∷ js) (suc k) h l = go js k h.1 (omega arith)

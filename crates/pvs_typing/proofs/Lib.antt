@@ -5,3 +5,4 @@ pub mod NodeLaws
 pub mod PartLaws
 pub mod JudgingLaws
 pub mod RowLaws
+pub mod TaskLaws

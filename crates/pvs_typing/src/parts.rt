@@ -9,7 +9,8 @@ ghost use Rattle.pvs_types.specs.Forms.{is_among};
 ghost use Rattle.pvs_types.specs.Outcome.{within_limits};
 ghost use Rattle.pvs_types.specs.Coerce.{lift_one, application, first_part, second_part};
 ghost use Rattle.pvs_typing.specs.Growth.{AreKnown, IsKnown, Keeps, all_at};
-ghost use Rattle.pvs_typing.specs.Answers.{Gives, IsFault};
+ghost use Rattle.pvs_typing.specs.code.Tasks.{both_lifted};
+ghost use Rattle.pvs_typing.specs.Answers.{Gives, IsFault, IsMemory};
 
 use crate::fault::TypeFault;
 use crate::nodes::{is_same, known_node};
@@ -77,11 +78,7 @@ pub(crate) fn second_part<T: Theories>(
 }
 
 /// A type under one more variable.
-pub(crate) fn lift_type<T: Theories>(
-    theories: &mut T,
-    _theory: Name,
-    id: Id,
-) -> Result<Id, TypeFault>
+fn lift_type<T: Theories>(theories: &mut T, _theory: Name, id: Id) -> Result<Id, TypeFault>
     requires theory { IsName (T.stored theories.old) _theory }
     requires id { IsKnown (T.stored theories.old) (T.declares theories.old _theory) OfType id }
     ensures ok { IfOk result (Gives (T.stored theories.new) (T.declares theories.new _theory) OfType (lift_one (tree_at (T.stored theories.old) id))) }
@@ -90,6 +87,37 @@ pub(crate) fn lift_type<T: Theories>(
 {
     let lifted = theories.lift(id, 1, 0)?;
     Ok(lifted)
+}
+
+/// Two types under one more variable.
+pub(crate) fn lift_both<T: Theories>(
+    theories: &mut T,
+    theory: Name,
+    first: Id,
+    second: Id,
+) -> Result<(Id, Id), TypeFault>
+    requires theory { IsName (T.stored theories.old) theory }
+    requires first { IsKnown (T.stored theories.old) (T.declares theories.old theory) OfType first }
+    requires second { IsKnown (T.stored theories.old) (T.declares theories.old theory) OfType second }
+    ensures first { IfOk result (λ p. Gives (T.stored theories.new) (T.declares theories.new theory) OfType (lift_one (tree_at (T.stored theories.old) first)) p.0) }
+    ensures second { IfOk result (λ p. Gives (T.stored theories.new) (T.declares theories.new theory) OfType (lift_one (tree_at (T.stored theories.old) second)) p.1) }
+    ensures refused { IfErr result (IsFault (both_lifted (tree_at (T.stored theories.old) first) (tree_at (T.stored theories.old) second))) }
+    ensures kept { Keeps (T.stored theories.old) (T.declares theories.old theory) (T.lookups theories.old theory) (T.stored theories.new) (T.declares theories.new theory) (T.lookups theories.new theory) }
+{
+    let lifted_first = lift_type(theories, theory, first)?;
+    let lifted_second = lift_type(theories, theory, second)?;
+    Ok((lifted_first, lifted_second))
+}
+
+/// The variable of a new binder.
+pub(crate) fn new_variable<T: Theories>(theories: &mut T, _theory: Name) -> Result<Id, TypeFault>
+    requires theory { IsName (T.stored theories.old) _theory }
+    ensures ok { IfOk result (Gives (T.stored theories.new) (T.declares theories.new _theory) OfTerm (Var 0)) }
+    ensures refused { IfErr result IsMemory }
+    ensures kept { Keeps (T.stored theories.old) (T.declares theories.old _theory) (T.lookups theories.old _theory) (T.stored theories.new) (T.declares theories.new _theory) (T.lookups theories.new _theory) }
+{
+    let made = theories.make(Node::Var(0))?;
+    Ok(made)
 }
 
 /// A type with a term substituted for its index 0.

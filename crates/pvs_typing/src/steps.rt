@@ -1,23 +1,25 @@
 //! The steps of a coercion, by the seven cases.
 
 ghost use Rattle.std.specs.Prelude.{◌≡◌, ◌≤◌, ◌∷◌, suc, false, Ok, IfOk, IfErr};
-ghost use Rattle.pvs_terms.specs.Tree.{Var, TName, TSub, TFun, TPair, tree_eq};
+ghost use Rattle.pvs_terms.specs.Tree.{TName, TSub, TFun, TPair, tree_eq};
 ghost use Rattle.pvs_terms.specs.declared.shape.Sort.TheVariants.{OfType, OfTerm};
 ghost use Rattle.pvs_terms.specs.Stored.{IsName, IsRef, tree_at, ref_at};
-ghost use Rattle.pvs_subst.specs.Contexts.{Variable, context_at};
+ghost use Rattle.pvs_subst.specs.Contexts.{context_at};
 ghost use Rattle.pvs_sig.specs.Lookups.{IsOrdered};
 ghost use Rattle.pvs_types.specs.Outcome.{pure};
 ghost use Rattle.pvs_types.specs.Coerce.{coerce, coerce_to, coerce_parts, coerce_function};
 ghost use Rattle.pvs_typing.specs.Above.{is_above};
 ghost use Rattle.pvs_typing.specs.Growth.{IsKnown, IsKnownContext, Keeps};
-ghost use Rattle.pvs_typing.specs.Answers.{IsFault, IsMemory, IsRefusal};
-ghost use Rattle.pvs_typing.specs.code.Tasks.{AreVariableTasks, Follows, IsKnownCoercion, IsKnownTask, apply_outcome, both_lifted, coercion_work, head_outcome, satisfy_outcome, second_outcome, task_outcome, task_work};
+ghost use Rattle.pvs_typing.specs.Answers.{IsFault, IsRefusal};
+ghost use Rattle.pvs_typing.specs.code.Tasks.{Follows, IsKnownCoercion, IsKnownTask, apply_outcome, coercion_work, head_outcome, satisfy_outcome, second_outcome, task_outcome, task_work};
 
 use crate::contexts::{copy_context, enter_context};
 use crate::fault::TypeFault;
 use crate::forms::{head_of, up_of};
 use crate::nodes::{is_same, known_node};
-use crate::parts::{application, first_part, is_among, lift_type, second_part, substitute};
+use crate::parts::{
+    application, first_part, is_among, lift_both, new_variable, second_part, substitute,
+};
 use crate::tasks::{Next, Task};
 use crate::theories::Theories;
 use pvs_base::Code;
@@ -77,7 +79,7 @@ fn to_name<T: Theories>(
     requires r { IsRef (T.stored theories.old) r }
     requires is { tree_at (T.stored theories.old) to ≡ TName (ref_at (T.stored theories.old) r) }
     requires ordered { IsOrdered (T.lookups theories.old theory) }
-    ensures ok { IfOk result (Follows (T.lookups theories.old theory) (T.stored theories.new) (T.declares theories.new theory) (coerce_to (T.lookups theories.old theory) (coerce (T.lookups theories.old theory)) (context_at (T.stored theories.old) context.items) (tree_at (T.stored theories.old) term) (tree_at (T.stored theories.old) from) (TName (ref_at (T.stored theories.old) r))) (coercion_work (T.lookups theories.old theory) (tree_at (T.stored theories.old) from) (tree_at (T.stored theories.old) to))) }
+    ensures ok { IfOk result (Follows (T.lookups theories.old theory) (T.stored theories.new) (T.declares theories.new theory) (coerce_to (T.lookups theories.old theory) (coerce (T.lookups theories.old theory)) (context_at (T.stored theories.old) context.items) (tree_at (T.stored theories.old) term) (tree_at (T.stored theories.old) from) (TName (ref_at (T.stored theories.old) r))) (coercion_work (T.lookups theories.old theory) (tree_at (T.stored theories.old) from) (TName (ref_at (T.stored theories.old) r)))) }
     ensures refused { IfErr result (IsFault (coerce_to (T.lookups theories.old theory) (coerce (T.lookups theories.old theory)) (context_at (T.stored theories.old) context.items) (tree_at (T.stored theories.old) term) (tree_at (T.stored theories.old) from) (TName (ref_at (T.stored theories.old) r)))) }
     ensures kept { Keeps (T.stored theories.old) (T.declares theories.old theory) (T.lookups theories.old theory) (T.stored theories.new) (T.declares theories.new theory) (T.lookups theories.new theory) }
 {
@@ -97,7 +99,7 @@ fn to_name<T: Theories>(
 
 /// To a predicate subtype: to its supertype, and then the predicate is owed.
 fn to_subtype<T: Theories>(
-    theories: &mut T,
+    theories: &T,
     _theory: Name,
     context: Context,
     term: Id,
@@ -105,12 +107,11 @@ fn to_subtype<T: Theories>(
     supertype: Id,
     predicate: Id,
 ) -> Result<Next, TypeFault>
-    requires theory { IsName (T.stored theories.old) _theory }
-    requires coercion { IsKnownCoercion (T.stored theories.old) (T.declares theories.old _theory) context term from supertype }
-    requires predicate { IsKnown (T.stored theories.old) (T.declares theories.old _theory) OfTerm predicate }
-    ensures ok { IfOk result (Follows (T.lookups theories.old _theory) (T.stored theories.new) (T.declares theories.new _theory) (coerce_to (T.lookups theories.old _theory) (coerce (T.lookups theories.old _theory)) (context_at (T.stored theories.old) context.items) (tree_at (T.stored theories.old) term) (tree_at (T.stored theories.old) from) (TSub (tree_at (T.stored theories.old) supertype) (tree_at (T.stored theories.old) predicate))) (coercion_work (T.lookups theories.old _theory) (tree_at (T.stored theories.old) from) (TSub (tree_at (T.stored theories.old) supertype) (tree_at (T.stored theories.old) predicate)))) }
-    ensures refused { IfErr result (IsFault (coerce_to (T.lookups theories.old _theory) (coerce (T.lookups theories.old _theory)) (context_at (T.stored theories.old) context.items) (tree_at (T.stored theories.old) term) (tree_at (T.stored theories.old) from) (TSub (tree_at (T.stored theories.old) supertype) (tree_at (T.stored theories.old) predicate)))) }
-    ensures kept { Keeps (T.stored theories.old) (T.declares theories.old _theory) (T.lookups theories.old _theory) (T.stored theories.new) (T.declares theories.new _theory) (T.lookups theories.new _theory) }
+    requires theory { IsName (T.stored theories.now) _theory }
+    requires coercion { IsKnownCoercion (T.stored theories.now) (T.declares theories.now _theory) context term from supertype }
+    requires predicate { IsKnown (T.stored theories.now) (T.declares theories.now _theory) OfTerm predicate }
+    ensures ok { IfOk result (Follows (T.lookups theories.now _theory) (T.stored theories.now) (T.declares theories.now _theory) (coerce_to (T.lookups theories.now _theory) (coerce (T.lookups theories.now _theory)) (context_at (T.stored theories.now) context.items) (tree_at (T.stored theories.now) term) (tree_at (T.stored theories.now) from) (TSub (tree_at (T.stored theories.now) supertype) (tree_at (T.stored theories.now) predicate))) (coercion_work (T.lookups theories.now _theory) (tree_at (T.stored theories.now) from) (TSub (tree_at (T.stored theories.now) supertype) (tree_at (T.stored theories.now) predicate)))) }
+    ensures refused { IfErr result (IsFault (coerce_to (T.lookups theories.now _theory) (coerce (T.lookups theories.now _theory)) (context_at (T.stored theories.now) context.items) (tree_at (T.stored theories.now) term) (tree_at (T.stored theories.now) from) (TSub (tree_at (T.stored theories.now) supertype) (tree_at (T.stored theories.now) predicate)))) }
 {
     let alloc = theories.store().allocator();
     let outer = copy_context(alloc, &context)?;
@@ -213,60 +214,6 @@ fn to_pair<T: Theories>(
     }
 }
 
-/// The coercion of a variable of a new binder, from one type to another.
-fn variable_task<T: Theories>(
-    theories: &mut T,
-    _theory: Name,
-    context: &Context,
-    domain: Id,
-    from: Id,
-    to: Id,
-) -> Result<Task, TypeFault>
-    requires theory { IsName (T.stored theories.old) _theory }
-    requires context { IsKnownContext (T.stored theories.old) (T.declares theories.old _theory) context.now.items }
-    requires domain { IsKnown (T.stored theories.old) (T.declares theories.old _theory) OfType domain }
-    requires from { IsKnown (T.stored theories.old) (T.declares theories.old _theory) OfType from }
-    requires to { IsKnown (T.stored theories.old) (T.declares theories.old _theory) OfType to }
-    ensures known { IfOk result (IsKnownTask (T.stored theories.new) (T.declares theories.new _theory)) }
-    ensures outcome { IfOk result (λ x. task_outcome (T.lookups theories.old _theory) (T.stored theories.new) x ≡ coerce (T.lookups theories.old _theory) (Variable (tree_at (T.stored theories.old) domain) ∷ context_at (T.stored theories.old) context.now.items) (Var 0) (tree_at (T.stored theories.old) from) (tree_at (T.stored theories.old) to)) }
-    ensures work { IfOk result (λ x. task_work (T.lookups theories.old _theory) (T.stored theories.new) x ≡ coercion_work (T.lookups theories.old _theory) (tree_at (T.stored theories.old) from) (tree_at (T.stored theories.old) to)) }
-    ensures refused { IfErr result IsMemory }
-    ensures kept { Keeps (T.stored theories.old) (T.declares theories.old _theory) (T.lookups theories.old _theory) (T.stored theories.new) (T.declares theories.new _theory) (T.lookups theories.new _theory) }
-{
-    let alloc = theories.store().allocator();
-    let term = theories.make(Node::Var(0))?;
-    let context = enter_context(alloc, context, Assumed::Bind(domain))?;
-    Ok(Task::Coerce {
-        context,
-        term,
-        from,
-        to,
-    })
-}
-
-/// A variable of each domain, to the other domain.
-fn variable_tasks<T: Theories>(
-    theories: &mut T,
-    theory: Name,
-    context: &Context,
-    from: Id,
-    to: Id,
-) -> Result<(Task, Task), TypeFault>
-    requires theory { IsName (T.stored theories.old) theory }
-    requires context { IsKnownContext (T.stored theories.old) (T.declares theories.old theory) context.now.items }
-    requires from { IsKnown (T.stored theories.old) (T.declares theories.old theory) OfType from }
-    requires to { IsKnown (T.stored theories.old) (T.declares theories.old theory) OfType to }
-    ensures ok { IfOk result (λ p. AreVariableTasks (T.lookups theories.old theory) (T.stored theories.new) (T.declares theories.new theory) (context_at (T.stored theories.old) context.now.items) (tree_at (T.stored theories.old) from) (tree_at (T.stored theories.old) to) p.0 p.1) }
-    ensures refused { IfErr result (IsFault (both_lifted (tree_at (T.stored theories.old) from) (tree_at (T.stored theories.old) to))) }
-    ensures kept { Keeps (T.stored theories.old) (T.declares theories.old theory) (T.lookups theories.old theory) (T.stored theories.new) (T.declares theories.new theory) (T.lookups theories.new theory) }
-{
-    let above_from = lift_type(theories, theory, from)?;
-    let above_to = lift_type(theories, theory, to)?;
-    let there = variable_task(theories, theory, context, from, above_from, above_to)?;
-    let back = variable_task(theories, theory, context, to, above_to, above_from)?;
-    Ok((there, back))
-}
-
 /// Between function types with different domains: a variable of each domain to the other, and then the
 /// application.
 fn between_domains<T: Theories>(
@@ -287,15 +234,32 @@ fn between_domains<T: Theories>(
     ensures refused { IfErr result (IsFault (coerce_function (coerce (T.lookups theories.old theory)) (context_at (T.stored theories.old) context.items) (tree_at (T.stored theories.old) term) (tree_at (T.stored theories.old) domain_to) (tree_at (T.stored theories.old) range_to) (TFun (tree_at (T.stored theories.old) domain_from) (tree_at (T.stored theories.old) range_from)))) }
     ensures kept { Keeps (T.stored theories.old) (T.declares theories.old theory) (T.lookups theories.old theory) (T.stored theories.new) (T.declares theories.new theory) (T.lookups theories.new theory) }
 {
-    let (there, back) = variable_tasks(theories, theory, &context, domain_from, domain_to)?;
-    let apply = Task::Apply {
-        context,
-        domain: domain_from,
-        term,
-        from: range_from,
-        to: range_to,
-    };
-    Ok(Next::Three(there, back, apply))
+    let alloc = theories.store().allocator();
+    let (above_from, above_to) = lift_both(theories, theory, domain_from, domain_to)?;
+    let term_inside = new_variable(theories, theory)?;
+    let inside_from = enter_context(alloc, &context, Assumed::Bind(domain_from))?;
+    let inside_to = enter_context(alloc, &context, Assumed::Bind(domain_to))?;
+    Ok(Next::Three(
+        Task::Coerce {
+            context: inside_from,
+            term: term_inside,
+            from: above_from,
+            to: above_to,
+        },
+        Task::Coerce {
+            context: inside_to,
+            term: term_inside,
+            from: above_to,
+            to: above_from,
+        },
+        Task::Apply {
+            context,
+            domain: domain_from,
+            term,
+            from: range_from,
+            to: range_to,
+        },
+    ))
 }
 
 /// Between function types: the domains, unless they are equal, and then the application.

@@ -1,6 +1,6 @@
 -- What is left of a coercion: which outcomes tasks stand for, and how much work they are at most.
 use Rattle.std.specs.Prelude.{◌≡◌, ◌<◌, ◌≤◌, ◌+◌, ℕ, zero, suc, List, [], ◌∷◌, ◌++◌}
-use Rattle.pvs_terms.specs.Tree.{Tree, Ref, Var}
+use Rattle.pvs_terms.specs.Tree.{Tree, Ref}
 use Rattle.pvs_terms.specs.declared.shape.Sort.{Sort}
 use Rattle.pvs_terms.specs.declared.shape.Sort.TheVariants.{OfType, OfTerm}
 use Rattle.pvs_terms.specs.Stored.{Stored, tree_at}
@@ -138,13 +138,3 @@ both_lifted a b = do
   c ← within_limits (lift_one a)
   d ← within_limits (lift_one b)
   pure (c, d)
-
--- a variable of each type, to the other
-pub record AreVariableTasks (l : Lookups) (s : Stored) (P : Sort → Ref → Type 0) (g : Assumptions) (a b : Tree) (x y : Task) : Type 0 where
-  pub first_known : IsKnownTask s P x
-  pub second_known : IsKnownTask s P y
-  pub first : task_outcome l s x ≡ coerce l (Variable a ∷ g) (Var 0) (lift_one a) (lift_one b)
-  pub second : task_outcome l s y ≡ coerce l (Variable b ∷ g) (Var 0) (lift_one b) (lift_one a)
-  pub first_work : task_work l s x ≡ coercion_work l a b
-  pub second_work : task_work l s y ≡ coercion_work l a b
-  pub fits : both_lifted a b ≡ pure (lift_one a, lift_one b)

@@ -1,0 +1,31 @@
+use Rattle.std.proofs.Common.{ap, Ok, ◌∙◌}
+use Rattle.pvs_terms.specs.declared.shape.Sort.TheVariants.{OfType}
+use Rattle.pvs_terms.specs.Stored.{tree_at, ref_at}
+use Rattle.pvs_subst.specs.Contexts.{context_at}
+use Rattle.pvs_typing.specs.Answers.{IsOptionKnown, tree_option}
+use Rattle.pvs_typing.proofs.GrowthLaws.{keeps_trans, known_kept}
+use Rattle.pvs_typing.proofs.TaskLaws.{name_done, name_follows}
+use Rattle.pvs_typing.proofs.steps.to_name.Goals as goal
+
+pub same_head-requires-clause-from : goal.same_head-requires-clause-from
+same_head-requires-clause-from g c = known_kept OfType c.args.from c.in_ok-body_of.ensures.kept c.requires.coercion.from
+
+pub returns-in_err-same_head-in-None-clause-kept : goal.returns-in_err-same_head-in-None-clause-kept
+returns-in_err-same_head-in-None-clause-kept g c = keeps_trans c.in_ok-body_of.ensures.kept c.in_err-same_head-in-None.ensures.kept
+
+pub returns-in_ok-same_head-in-None-clause-kept : goal.returns-in_ok-same_head-in-None-clause-kept
+returns-in_ok-same_head-in-None-clause-kept g c = keeps_trans c.in_ok-body_of.ensures.kept c.in_ok-same_head-in-None.ensures.kept
+
+pub returns-in_ok-same_head-in-None-clause-ok : goal.returns-in_ok-same_head-in-None-clause-ok
+returns-in_ok-same_head-in-None-clause-ok g c =
+    let t = g.T.Theories in
+    let s = t.stored c.args.theories.now in
+    name_done (t.stored c.same_head.new.theories) (t.declares c.same_head.new.theories c.args.theory) (context_at s c.args.context.items) (tree_at s c.args.term) c.args.from c.args.to (ref_at s c.args.r) c.in_ok-body_of.field-0
+    c.in_ok-body_of.ensures.kept c.requires.coercion.from c.requires.coercion.to c.requires.is c.in-None.is c.in_ok-body_of.ensures.ok c.in_ok-same_head-in-None.ensures.ok
+
+pub returns-in-Some-clause-ok : goal.returns-in-Some-clause-ok
+returns-in-Some-clause-ok g c =
+    let t = g.T.Theories in
+    let s = t.stored c.args.theories.now in
+    name_follows c.args.context c.args.term c.args.from c.args.to c.in-Some.body (ref_at s c.args.r) c.requires.ordered c.in_ok-body_of.ensures.kept c.requires.coercion
+    (rw c.in-Some.is at c.in_ok-body_of.ensures.known) (c.in_ok-body_of.ensures.ok ∙ ap (λ o. Ok (tree_option (t.stored c.body_of.new.self) o)) c.in-Some.is)
