@@ -1,9 +1,9 @@
 //! The steps of the rows of typing that do not go into a part.
 
-ghost use Rattle.std.specs.Prelude.{◌≡◌, ◌∷◌, [], ◌<◌, ◌≤◌, IfOk, IfErr, IfSome, IfNone, false};
+ghost use Rattle.std.specs.Prelude.{true, length, ◌≡◌, ◌∷◌, [], ◌<◌, ◌≤◌, IfOk, IfErr, IfSome, IfNone, false};
 ghost use Rattle.pvs_terms.specs.declared.shape.Sort.TheVariants.{OfType, OfTerm};
-ghost use Rattle.pvs_terms.specs.Tree.{TBool, TFun, TPair, Lam, True, If, Fst};
-ghost use Rattle.pvs_terms.specs.Stored.{IsName, IsNode, IsRef, ref_at, tree_at};
+ghost use Rattle.pvs_terms.specs.Tree.{TBool, TFun, TPair, Lam, True, If, Fst, IsWithinLimits};
+ghost use Rattle.pvs_terms.specs.Stored.{HasParts, IsName, IsNode, IsRef, node_tree, ref_at, tree_at};
 ghost use Rattle.pvs_subst.specs.Replace.{put_in};
 ghost use Rattle.pvs_subst.specs.Contexts.{context_at};
 ghost use Rattle.pvs_sig.specs.Lookups.{IsOrdered};
@@ -12,17 +12,19 @@ ghost use Rattle.pvs_types.specs.Forms.{first_among};
 ghost use Rattle.pvs_types.specs.Outcome.{pure, within_limits};
 ghost use Rattle.pvs_types.specs.Typing.{variable_infer, constant_infer, negation, is_forall};
 ghost use Rattle.pvs_typing.specs.Answers.{Gives, IsFault, IsOptionKnown, tree_option};
-ghost use Rattle.pvs_typing.specs.Growth.{AreKnown, IsKnown, IsKnownContext, IsKnownItem, Keeps, all_at};
+ghost use Rattle.pvs_typing.specs.Growth.{AreKnown, EachName, IsKnown, IsKnownContext, IsKnownItem, Keeps, all_at};
 ghost use Rattle.pvs_typing.specs.Owed.{conditions_at};
 ghost use Rattle.pvs_typing.specs.Judging.{Answers, IsGiven};
-ghost use Rattle.pvs_typing.specs.code.Rows.{binder_at, common_above, components_at, equal_at, equal_left, equal_sides, first_type, function_at, joined, second_component, second_type, truth_tree, tuple_at, widened, widened_other, widened_to};
+ghost use Rattle.pvs_typing.specs.Nodes.{HasKnownParts};
+ghost use Rattle.pvs_terms.specs.code.Shapes.{shape_of};
+ghost use Rattle.pvs_typing.specs.code.Rows.{binder_at, common_above, components_at, equal_at, equal_left, equal_sides, first_type, function_at, is_true_on, is_truth, joined, second_component, second_type, truth_tree, tuple_at, widened, widened_other, widened_to};
 
 use crate::coercion::coerce_of;
 use crate::contexts::enter_context;
 use crate::fault::TypeFault;
 use crate::forms::{head_of, up_of};
 use crate::most::most_of;
-use crate::nodes::is_same;
+use crate::nodes::{is_same, known_node};
 use crate::parts::{is_among, substitute};
 use crate::theories::Theories;
 use pvs_base::Code;
@@ -349,8 +351,40 @@ pub(crate) fn second_type<T: Theories>(
     second_component(theories, theory, components, tuple, parts.1)
 }
 
-/// Whether two sides of an equation are those of a FORALL: a predicate on a type, and TRUE on the
-/// same type.
+/// The node of a known tree. Its parts are known, and older.
+pub(crate) fn node_of<T: Theories>(theories: &T, theory: Name, id: Id) -> Node
+    requires node { IsNode (T.stored theories.now) id }
+    requires names { EachName (T.declares theories.now theory) (tree_at (T.stored theories.now) id) }
+    ensures tree { tree_at (T.stored theories.now) id ≡ node_tree (T.stored theories.now) result }
+    ensures parts { HasKnownParts (T.stored theories.now) (T.declares theories.now theory) result }
+    ensures below { HasParts id (length (T.stored theories.now).refs) (shape_of result) }
+    ensures fits { IsWithinLimits (tree_at (T.stored theories.now) id) }
+{
+    theories.store().view(id)
+}
+
+/// Whether a term is TRUE.
+fn is_true<T: Theories>(theories: &T, term: Id) -> bool
+    requires { IsNode (T.stored theories.now) term }
+    ensures { result ≡ is_truth (tree_at (T.stored theories.now) term) }
+{
+    matches!(theories.store().view(term), Node::True)
+}
+
+/// Whether a term is the predicate on this type that is TRUE.
+fn is_true_on<T: Theories>(theories: &T, theory: Name, domain: Id, term: Id) -> bool
+    requires domain { IsKnown (T.stored theories.now) (T.declares theories.now theory) OfType domain }
+    requires term { IsKnown (T.stored theories.now) (T.declares theories.now theory) OfTerm term }
+    ensures { result ≡ is_true_on (tree_at (T.stored theories.now) domain) (tree_at (T.stored theories.now) term) }
+{
+    match known_node(theories, theory, term) {
+        Node::Lam(other, body) => is_true(theories, body) && is_same(theories, domain, other),
+        _ => false,
+    }
+}
+
+/// The domain and the predicate of a FORALL, where the two sides of an equation are those of one:
+/// a predicate on a type, and TRUE on the same type.
 pub(crate) fn forall_parts<T: Theories>(
     theories: &T,
     theory: Name,
@@ -359,14 +393,16 @@ pub(crate) fn forall_parts<T: Theories>(
 ) -> Option<(Id, Id)>
     requires left { IsKnown (T.stored theories.now) (T.declares theories.now theory) OfTerm left }
     requires right { IsKnown (T.stored theories.now) (T.declares theories.now theory) OfTerm right }
-    ensures some { IfSome result (λ p. ((tree_at (T.stored theories.now) left) ≡ Lam (tree_at (T.stored theories.now) p.0) (tree_at (T.stored theories.now) p.1)) × ((tree_at (T.stored theories.now) right) ≡ Lam (tree_at (T.stored theories.now) p.0) True)) }
+    ensures some { IfSome result (λ p. (tree_at (T.stored theories.now) left) ≡ Lam (tree_at (T.stored theories.now) p.0) (tree_at (T.stored theories.now) p.1)) }
+    ensures test { IfSome result (λ _. is_forall (tree_at (T.stored theories.now) left) (tree_at (T.stored theories.now) right) ≡ true) }
     ensures below { IfSome result (λ p. (p.0 < left) × (p.1 < left)) }
-    ensures known { IfSome result (λ p. IsKnown (T.stored theories.now) (T.declares theories.now theory) OfType p.0 × IsKnown (T.stored theories.now) (T.declares theories.now theory) OfTerm p.1) }
+    ensures domain { IfSome result (λ p. IsKnown (T.stored theories.now) (T.declares theories.now theory) OfType p.0) }
+    ensures predicate { IfSome result (λ p. IsKnown (T.stored theories.now) (T.declares theories.now theory) OfTerm p.1) }
     ensures none { IfNone result (is_forall (tree_at (T.stored theories.now) left) (tree_at (T.stored theories.now) right) ≡ false) }
 {
-    match (theories.store().view(left), theories.store().view(right)) {
-        (Node::Lam(domain, predicate), Node::Lam(other, body)) => {
-            if is_same(theories, domain, other) && theories.store().view(body) == Node::True {
+    match node_of(theories, theory, left) {
+        Node::Lam(domain, predicate) => {
+            if is_true_on(theories, theory, domain, right) {
                 Some((domain, predicate))
             } else {
                 None

@@ -21,24 +21,12 @@ use crate::fault::TypeFault;
 use crate::parts::substitute;
 use crate::rows::{
     constant_type, equal_sides, first_type, forall_parts, function_parts, function_type, joined,
-    negated, second_type, truth_type, tuple_type, variable_type,
+    negated, node_of, second_type, truth_type, tuple_type, variable_type,
 };
 use crate::theories::Theories;
 use pvs_base::Code;
 use pvs_subst::{Assumed, Condition, Context};
 use pvs_terms::{Id, Name, Node};
-
-/// The node of a known tree. Its parts are known, and older.
-fn node_of<T: Theories>(theories: &T, theory: Name, id: Id) -> Node
-    requires node { IsNode (T.stored theories.now) id }
-    requires names { EachName (T.declares theories.now theory) (tree_at (T.stored theories.now) id) }
-    ensures tree { tree_at (T.stored theories.now) id ≡ node_tree (T.stored theories.now) result }
-    ensures parts { HasKnownParts (T.stored theories.now) (T.declares theories.now theory) result }
-    ensures below { HasParts id (length (T.stored theories.now).refs) (shape_of result) }
-    ensures fits { IsWithinLimits (tree_at (T.stored theories.now) id) }
-{
-    theories.store().view(id)
-}
 
 /// The type of a term inside an item.
 #[cycle(typing)]

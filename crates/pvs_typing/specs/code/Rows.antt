@@ -1,11 +1,13 @@
 -- What is left of a row of typing after its first steps.
-use Rattle.std.specs.Prelude.{ℕ, zero, suc, Bool, true, false, List, [], ◌∷◌, Option, Some, None}
-use Rattle.pvs_terms.specs.Tree.{Tree, TBool, True, False, TFun, TPair, Fst}
+use Rattle.std.specs.Prelude.{ℕ, zero, suc, Bool, true, false, ◌&&◌, List, [], ◌∷◌, Option, Some, None}
+use Rattle.pvs_terms.specs.Tree.{Tree, Leaf, Bind, tree_eq, TBool, True, False, TFun, TPair, Fst}
+use Rattle.pvs_terms.specs.declared.shape.Plain.TheVariants.{Yes}
+use Rattle.pvs_terms.specs.declared.shape.Binder.TheVariants.{Lambda}
 use Rattle.pvs_terms.specs.Stored.{Stored, tree_at}
 use Rattle.pvs_subst.specs.Replace.{put_in}
 use Rattle.pvs_subst.specs.Contexts.{Assumptions, Variable, Hypothesis}
 use Rattle.pvs_subst.specs.declared.context.Assumed.{Assumed}
-use Rattle.pvs_subst.specs.declared.context.Assumed.TheVariants.{Bind, Hyp}
+use Rattle.pvs_subst.specs.declared.context.Assumed.TheVariants as assumed
 use Rattle.pvs_sig.specs.Lookups.{Lookups}
 use Rattle.pvs_types.specs.Outcome.{Outcome, ◌>>=◌, ◌>>◌, pure, from_result, within_limits}
 use Rattle.pvs_types.specs.Forms.{head, up, most, first_among}
@@ -15,13 +17,22 @@ use Rattle.pvs_types.specs.Typing.{Components, function_of, tuple_of, predicate_
 -- the type of the binder of this index, the innermost first, as it stands there
 abbrev pub binder_at : List Assumed → ℕ → Option ℕ
 binder_at [] n = None
-binder_at (Bind i ∷ g) zero = Some i
-binder_at (Bind i ∷ g) (suc n) = binder_at g n
-binder_at (Hyp i ∷ g) n = binder_at g n
+binder_at (assumed.Bind i ∷ g) zero = Some i
+binder_at (assumed.Bind i ∷ g) (suc n) = binder_at g n
+binder_at (assumed.Hyp i ∷ g) n = binder_at g n
 
 abbrev pub truth_tree : Bool → Tree
 truth_tree true = True
 truth_tree false = False
+
+abbrev pub is_truth : Tree → Bool
+is_truth (Leaf Yes) = true
+is_truth t = false
+
+-- whether a term is the predicate on this type that is TRUE
+abbrev pub is_true_on : Tree → Tree → Bool
+is_true_on a (Bind Lambda b t) = is_truth t && tree_eq a b
+is_true_on a t = false
 
 abbrev pub components_at : Stored → ℕ → ℕ → Components
 components_at s a b = record { first = tree_at s a; second = tree_at s b }
