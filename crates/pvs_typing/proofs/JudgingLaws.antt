@@ -18,7 +18,9 @@ use Rattle.pvs_typing.specs.declared.fault.TypeFault.{TypeFault}
 use Rattle.pvs_typing.specs.declared.fault.TypeFault.TheVariants as fault
 use Rattle.pvs_typing.specs.Answers.{Gives, IsFault, IsRefusal}
 use Rattle.pvs_typing.specs.Growth.{IsKnown, IsKnownItem, IsKnownContext, Keeps}
-use Rattle.pvs_typing.specs.Owed.{conditions_at, AreKnownConditions, Owes}
+use Rattle.pvs_types.specs.Symbols.{symbols}
+use Rattle.pvs_types.specs.Uses.{AreSameSymbols, Uses}
+use Rattle.pvs_typing.specs.Owed.{conditions_at, refs_at, AreKnownConditions, Judges, Owes}
 use Rattle.pvs_typing.specs.Judging.{IsGiven, Accepts, IsAnswer, Answers}
 use Rattle.pvs_typing.proofs.GrowthLaws.{context_kept}
 use Rattle.pvs_typing.proofs.OwedLaws.{after_none, after_then, conditions_same, conditions_kept, context_same, owes_none, owes_then, fault_first, fault_next}
@@ -72,7 +74,7 @@ pub answers_fault : {A W B : Type 0} {value : W → B} {s : Stored} {P : Sort �
 answers_fault {value = value} {s = s} {P = P} {before = before} {cs = cs} o k e h f =
     record { is = subst (IsAnswer value s P before (o >>= k) cs) (sym h) (fault_first o k e f) }
 
-append_none : (xs : Conditions) → xs ++ [] ≡ xs
+pub append_none : (xs : Conditions) → xs ++ [] ≡ xs
 append_none [] = refl
 append_none (x ∷ xs) = ap (λ y. x ∷ y) (append_none xs)
 
@@ -200,3 +202,10 @@ form_fault x fault.Memory h = tt
 pub pure_answers : {V A : Type 0} (value : V → A) (s : Stored) (P : Sort → Ref → Type 0) (cs : List Condition) (v : V) (a : A)
     → AreKnownConditions s P cs → value v ≡ a → Answers value s P (conditions_at s cs) (pure a) cs (Ok v)
 pure_answers value s P cs v a h e = record { is = record { owes = owes_none s (pure a) (value v) cs (ap pure (sym e)); conditions = h } }
+
+-- a public answer: the symbols that typing says are used are those of the tree
+pub judged : {A : Type 0} {s : Stored} {P : Sort → Ref → Type 0} {o : Outcome A} {a : A} {cs : List Condition} (t : Tree) (rs : List ℕ)
+    → Accepts s P [] o a cs → Uses (symbols t) o → refs_at s rs ≡ symbols t → Judges s o a cs rs
+judged {o = o} t rs h u e =
+    let is = sym (after_none o) ∙ h.owes.is in
+    record { symbols = h.owes.symbols; is = is; uses = subst (AreSameSymbols h.owes.symbols) (sym e) (subst (Uses (symbols t)) is u) }

@@ -21,7 +21,13 @@ use Rattle.pvs_types.specs.Typing.{binder_type, lift_option, variable_type, vari
 use Rattle.pvs_types.specs.Outcome.{from_option, uses, within_limits}
 use Rattle.pvs_typing.specs.Answers.{IsType, Gives, tree_option}
 use Rattle.pvs_typing.specs.Growth.{IsKnown, IsKnownContext, Keeps}
-use Rattle.pvs_typing.specs.Judging.{Accepts}
+use Rattle.pvs_subst.specs.declared.context.Condition.{Condition}
+use Rattle.pvs_terms.specs.Tree.{TName}
+use Rattle.pvs_types.specs.Outcome.{refuse}
+use Rattle.pvs_types.specs.Typing.{well_formed}
+use Rattle.pvs_typing.specs.Owed.{conditions_at, AreKnownConditions}
+use Rattle.pvs_typing.specs.Judging.{Accepts, Answers}
+use Rattle.pvs_typing.proofs.JudgingLaws.{append_none}
 use Rattle.pvs_typing.specs.code.Rows.{binder_at, is_true_on, is_truth}
 use Rattle.pvs_typing.proofs.GrowthLaws.{each-lift, each_weaker}
 use Rattle.pvs_typing.proofs.PartLaws.{fits_within, made_gives}
@@ -134,3 +140,16 @@ forall_on a p (Bind Lambda x y) = true_on a x y
 forall_on a p (Join o x y) = refl
 forall_on a p (Project o x) = refl
 forall_on a p (If x y z) = refl
+
+-- a type's name
+pub name_formed : (s : Stored) (P : Sort → Ref → Type 0) (l : Lookups) (g : Assumptions) (r : Ref) (cs : List Condition) → AreKnownConditions s P cs → l.is_type r ≡ true
+    → Answers {V = Unit {0}} (λ _. tt) s P (conditions_at s cs) (well_formed l g (TName r)) cs (Ok tt)
+name_formed s P l g r cs h e = record {
+  is = record {
+    owes = record {
+      symbols = symbols (TName r);
+      is = ap (λ b. outcome_after (conditions_at s cs) [] (cond b (uses (symbols (TName r))) (refuse Unknown))) e ∙ ap (λ x. Accepted tt x (symbols (TName r))) (append_none (conditions_at s cs));
+    };
+    conditions = h;
+  };
+}

@@ -2,7 +2,9 @@
 
 ghost use Rattle.std.specs.Prelude.{◌≡◌, ◌∷◌, ◌≤◌, length, IfOk};
 ghost use Rattle.pvs_terms.specs.declared.shape.Sort.TheVariants.{OfType, OfTerm};
-ghost use Rattle.pvs_terms.specs.Tree.{TBool, TSub, Lam, App, Tup, Fst, Snd, If, Eq};
+ghost use Rattle.pvs_terms.specs.Tree.{TBool};
+ghost use Rattle.pvs_terms.specs.declared.shape.Joint.TheVariants.{Equal};
+ghost use Rattle.pvs_terms.specs.declared.shape.Projection.TheVariants.{First, Second};
 ghost use Rattle.pvs_terms.specs.Stored.{HasParts, IsNode, node_tree, tree_at};
 ghost use Rattle.pvs_terms.specs.code.Shapes.{shape_of};
 ghost use Rattle.pvs_terms.specs.Tree.{IsWithinLimits};
@@ -775,7 +777,7 @@ pub(crate) fn formed_of<T: Theories>(
 {
     match node_of(theories, theory, ty) {
         Node::TBool => Ok(()),
-        Node::TName(_) => {
+        Node::TName(_r) => {
             theories.declared_types(theory);
             Ok(())
         }

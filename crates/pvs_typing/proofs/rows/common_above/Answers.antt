@@ -31,8 +31,10 @@ returns-clause-answer g c =
     let u = t.stored c.up_of-2.new.theories in
     let l = t.lookups c.args.theories.now c.args.theory in
     let second = rw (h1.kept.lookups, h1.kept.stored.trees c.args.second c.requires.second.node) at h2.ok in
-    record { is = accepts_pure u (t.declares c.up_of-2.new.theories c.args.theory) _ _ (common_at l (tree_at s c.args.first) (tree_at s c.args.second) _ _ _ h1.ok second
-    ((rw (c.deref.ensures.value, c.deref-2.ensures.value) at c.first_common.ensures.first) ∙ ap (λ x. first_among x (all_at u c.in_ok-above_second.above_second.items)) (trees_kept OfType c.in_ok-above_first.above_first.items h2.kept h1.known))) }
+    record {
+      is = accepts_pure u (t.declares c.up_of-2.new.theories c.args.theory) _ _ (common_at l (tree_at s c.args.first) (tree_at s c.args.second) _ _ _ h1.ok second
+          ((rw (c.deref.ensures.value, c.deref-2.ensures.value) at c.first_common.ensures.first) ∙ ap (λ x. first_among x (all_at u c.in_ok-above_second.above_second.items)) (trees_kept OfType c.in_ok-above_first.above_first.items h2.kept h1.known)));
+    }
 
 pub returns-in_err-above_first-clause-answer : goal.returns-in_err-above_first-clause-answer
 returns-in_err-above_first-clause-answer g c =

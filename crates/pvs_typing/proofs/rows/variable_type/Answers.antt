@@ -48,8 +48,10 @@ returns-in_err-lifted-in-Some-clause-answer g c =
     let items = c.args.g.now.items in
     let found : binder_at items c.args.index ≡ Some c.in-Some.ty = sym c.binder_at.ensures ∙ c.in-Some.is in
     let large = variable_some s items c.args.index c.in-Some.ty found in
-    rw (result_err c.from_residual.result c.from_residual.ensures.1) (record { is = subst_fault (variable_infer c.args.index (context_at s items)) c.in_err-lifted-in-Some.field-0.0
-    (λ h. large ∙ large_refused (lift (tree_at s c.in-Some.ty) (c.args.index + 1) 0) (c.in_err-lifted-in-Some.ensures.large h)) })
+    rw (result_err c.from_residual.result c.from_residual.ensures.1) (record {
+      is = subst_fault (variable_infer c.args.index (context_at s items)) c.in_err-lifted-in-Some.field-0.0
+          (λ h. large ∙ large_refused (lift (tree_at s c.in-Some.ty) (c.args.index + 1) 0) (c.in_err-lifted-in-Some.ensures.large h));
+    })
 
 pub returns-in_ok-lifted-in-Some-clause-answer : goal.returns-in_ok-lifted-in-Some-clause-answer
 returns-in_ok-lifted-in-Some-clause-answer g c =
