@@ -6,3 +6,4 @@ pub mod PartLaws
 pub mod JudgingLaws
 pub mod RowLaws
 pub mod TaskLaws
+pub mod SymbolLaws

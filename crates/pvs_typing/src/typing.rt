@@ -601,12 +601,12 @@ fn checked_other<T: Theories>(
     ensures answer { Answers (λ _. tt) (T.stored theories.new) (T.declares theories.new theory) (conditions_at (T.stored theories.old) conditions.old.items) (checked_other (T.lookups theories.old theory) (context_at (T.stored theories.old) g.now.items) (tree_at (T.stored theories.old) condition) (tree_at (T.stored theories.old) second) (tree_at (T.stored theories.old) ty)) conditions.new.items result }
     ensures kept { Keeps (T.stored theories.old) (T.declares theories.old theory) (T.lookups theories.old theory) (T.stored theories.new) (T.declares theories.new theory) (T.lookups theories.new theory) }
 {
-    let negation = negated(theories, theory, condition)?;
+    let otherwise = negated(theories, theory, condition)?;
     check_under(
         theories,
         theory,
         g,
-        Assumed::Hyp(negation),
+        Assumed::Hyp(otherwise),
         second,
         ty,
         conditions,

@@ -220,13 +220,13 @@ checked_branches-returns-clause-kept g t c =
 
 pub checked_other-returns-clause-answer : goal.checked_other-returns-clause-answer
 checked_other-returns-clause-answer g t c =
-    let h = c.in_ok-negation.ensures in
+    let h = c.in_ok-otherwise.ensures in
     let r = c.requires in
     row2 (λ l g b u n. check l (Hypothesis n ∷ g) b u) c.args.g.now.items c.args.second c.args.ty h.kept r.given.context r.second r.ty (quiet_accepts c.args.conditions.now.items h.kept r.given.conditions (made_accepts h.ok)) c.check_under.ensures.answer
 
 pub checked_other-returns-clause-kept : goal.checked_other-returns-clause-kept
 checked_other-returns-clause-kept g t c =
-    keeps_trans c.in_ok-negation.ensures.kept c.check_under.ensures.kept
+    keeps_trans c.in_ok-otherwise.ensures.kept c.check_under.ensures.kept
 
 pub predicate_of-returns-clause-answer : goal.predicate_of-returns-clause-answer
 predicate_of-returns-clause-answer g t c =
@@ -430,7 +430,7 @@ checked_branches-checked_other-requires g t c =
 
 pub checked_other-check_under-requires : goal.checked_other-check_under-requires
 checked_other-check_under-requires g t c =
-    λ κs below. (omega arith, (below, (given_kept c.in_ok-negation.ensures.kept c.requires.given (conditions_kept c.args.conditions.now.items c.in_ok-negation.ensures.kept c.requires.given.conditions), (c.in_ok-negation.ensures.ok.known, (known_kept OfTerm c.args.second c.in_ok-negation.ensures.kept c.requires.second, known_kept OfType c.args.ty c.in_ok-negation.ensures.kept c.requires.ty)))))
+    λ κs below. (omega arith, (below, (given_kept c.in_ok-otherwise.ensures.kept c.requires.given (conditions_kept c.args.conditions.now.items c.in_ok-otherwise.ensures.kept c.requires.given.conditions), (c.in_ok-otherwise.ensures.ok.known, (known_kept OfTerm c.args.second c.in_ok-otherwise.ensures.kept c.requires.second, known_kept OfType c.args.ty c.in_ok-otherwise.ensures.kept c.requires.ty)))))
 
 pub predicate_of-predicate_body-requires : goal.predicate_of-predicate_body-requires
 predicate_of-predicate_body-requires g t c =
