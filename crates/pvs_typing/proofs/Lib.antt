@@ -7,3 +7,4 @@ pub mod JudgingLaws
 pub mod RowLaws
 pub mod TaskLaws
 pub mod SymbolLaws
+pub mod StackLaws

@@ -22,7 +22,7 @@ use Rattle.pvs_terms.specs.declared.fault.MakeFault.TheVariants as made
 use Rattle.pvs_subst.specs.declared.fault.SubstFault.{SubstFault}
 use Rattle.pvs_subst.specs.declared.fault.SubstFault.TheVariants as replaced
 use Rattle.pvs_typing.specs.Answers.{Gives, IsFault, of_make, of_subst}
-use Rattle.pvs_typing.proofs.GrowthLaws.{each_weaker, each-lift, each-put_in, keeps_trans}
+use Rattle.pvs_typing.proofs.GrowthLaws.{each_weaker, each-lift, each-put_in, keeps_trans, known_kept}
 
 -- a number that stands for a tree of this sort with declared names
 pub stands_gives : (s : Stored) (P : Sort → Ref → Type 0) (o : Sort) (t : Tree) (i : ℕ) → sort_of t ≡ o → EachName P t → Stands s t i → Gives s P o t i
@@ -46,6 +46,9 @@ large_refused t h = go (is_within_limits t) refl
 -- a function is no larger than its application
 pub function_fits : (f a : Tree) → IsWithinLimits (App f a) → IsWithinLimits f
 function_fits f a h = record { deep = omega (arith, h.deep); large = omega (arith, h.large); index = omega (arith, h.index) }
+
+pub gives_kept : {s t : Stored} {P Q : Sort → Ref → Type 0} {l m : Lookups} {o : Sort} {u : Tree} {i : ℕ} → Keeps s P l t Q m → Gives s P o u i → Gives t Q o u i
+gives_kept {o = o} {i = i} k h = record { known = known_kept o i k h.known; tree = k.stored.trees i h.known.node ∙ h.tree; fits = h.fits }
 
 -- What is made of known trees is known.
 

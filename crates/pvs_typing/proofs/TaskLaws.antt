@@ -2,7 +2,6 @@
 use Rattle.std.proofs.Common.{◌≡◌, ℕ, zero, suc, ◌+◌, ◌<◌, ◌≤◌, Bool, true, false, cond, eqb, List, [], ◌∷◌, ◌++◌, append_assoc, eq-eqb, Option, Some, None, Result, Ok, Err, refl, ap, ap₂, ◌∙◌, sym, subst, arith}
 use Rattle.std.specs.Prelude.{IfOk}
 use Rattle.std.proofs.lemmas.Result.{IfOk-at_ok}
-use Rattle.std.proofs.lemmas.Bool.{eqb-true}
 use Rattle.pvs_base.specs.Answers as answers
 use Rattle.pvs_base.specs.declared.code.Code.{Code}
 use Rattle.pvs_base.specs.declared.code.Code.TheVariants.{Mismatch, TooLarge}
@@ -13,9 +12,10 @@ use Rattle.pvs_terms.specs.declared.shape.Binder.TheVariants.{Subtype, Function,
 use Rattle.pvs_terms.specs.Sorts.{sort_of, IsTerm, IsSorted}
 use Rattle.pvs_terms.specs.declared.node.Node.{Node}
 use Rattle.pvs_terms.specs.declared.node.Node.TheVariants as node
-use Rattle.pvs_terms.specs.Stored.{Stored, tree_at, node_tree}
+use Rattle.pvs_terms.specs.Stored.{Stored, tree_at, node_tree, Stands}
 use Rattle.pvs_subst.specs.Replace.{put_in}
 use Rattle.pvs_subst.specs.Contexts.{Assumptions, Variable, context_at}
+use Rattle.pvs_subst.specs.declared.context.Assumed.TheVariants as assumed
 use Rattle.pvs_subst.specs.declared.context.Condition.{Condition}
 use Rattle.pvs_subst.specs.declared.context.Context.{Context}
 use Rattle.pvs_sig.specs.Lookups.{Lookups, type_size, IsOrdered}
@@ -37,9 +37,9 @@ use Rattle.pvs_typing.specs.Above.{is_above}
 use Rattle.pvs_typing.specs.Growth.{IsKnown, IsKnownContext, Keeps}
 use Rattle.pvs_typing.specs.Answers.{IsFault, IsRefusal, Gives, tree_option}
 use Rattle.pvs_typing.specs.Owed.{condition_at, conditions_at, IsKnownCondition, AreKnownConditions}
-use Rattle.pvs_typing.specs.code.Tasks.{head_outcome, satisfy_outcome, second_outcome, apply_outcome, task_outcome, stack_outcome, next_outcome, IsKnownCoercion, IsKnownTask, AreKnownTasks, IsKnownNext, steps_bound, coercion_work, task_work, stack_work, next_work, Follows, tasks_after, conditions_after}
-use Rattle.pvs_typing.proofs.GrowthLaws.{known_kept, context_kept}
-use Rattle.pvs_typing.proofs.PartLaws.{fits_within}
+use Rattle.pvs_typing.specs.code.Tasks.{both, both_within, head_outcome, satisfy_outcome, second_outcome, apply_outcome, task_outcome, stack_outcome, next_outcome, IsKnownCoercion, IsKnownTask, AreKnownTasks, IsKnownNext, steps_bound, coercion_work, task_work, stack_work, next_work, Follows, tasks_after, conditions_after}
+use Rattle.pvs_typing.proofs.GrowthLaws.{keeps_trans, known_kept, context_kept}
+use Rattle.pvs_typing.proofs.PartLaws.{fits_within, gives_kept, put_gives}
 use Rattle.pvs_typing.proofs.OwedLaws.{after_none, after_then, accepted_then, context_same}
 
 -- The first case, and those after it.
@@ -69,6 +69,18 @@ module _ (l : Lookups) (ordered : IsOrdered l) (g : Assumptions) (t b a : Tree) 
   pub coerce_above_fault : (e : TypeFault) → IsRefusal (is_above l b a) e → IsFault (coerce l g t b a) e
   coerce_above_fault (fault.Refused c) h = rule ∙ by_fault (up l b) c (coerce_to l (coerce l) g t b a) h
   coerce_above_fault fault.Memory h = tt
+
+-- Steps in turn.
+
+pub then_assoc : (o u v : Outcome (Unit {0})) → ((o >> u) >> v) ≡ (o >> (u >> v))
+then_assoc (Refused c) u v = refl
+then_assoc (Accepted a cs rs) u v = sym (after_then cs rs u (λ _. v))
+
+-- the first refusal of two steps
+pub both_refused : (o u : Outcome Tree) (f : Tree → Tree → Outcome (Unit {0})) (q : Code) → both o u ≡ Refused q → (o >>= (λ x. u >>= (λ y. f x y))) ≡ Refused q
+both_refused (Refused d) u f q h = let e : d ≡ q = cc in ap Refused e
+both_refused (Accepted x cs rs) (Refused d) f q h = let e : d ≡ q = cc in ap Refused e
+both_refused (Accepted x cs rs) (Accepted y ds ss) f q h = cc
 
 -- A step that is answered by a result.
 
@@ -262,40 +274,6 @@ pub pair_case : (l : Lookups) (g : Assumptions) (t b : Tree) (n : ℕ) (b1 b2 a1
 pair_case l g t b n b1 b2 a1 a2 h =
     result_then (head l b) (coerce_pair (coerce l) g t n a1 a2) (TPair n b1 b2) h ∙ ap (λ x. cond x (coerce_parts (coerce l) g t n b1 b2 a1 a2) (refuse Mismatch)) (eq-eqb n n refl)
 
-pub pair_counts : (l : Lookups) (g : Assumptions) (t b : Tree) (j n : ℕ) (b1 b2 a1 a2 : Tree) → head l b ≡ Ok (TPair j b1 b2) → (j ≡ n → ⊥)
-    → coerce_to l (coerce l) g t b (TPair n a1 a2) ≡ Refused Mismatch
-pair_counts l g t b j n b1 b2 a1 a2 h k =
-    result_then (head l b) (coerce_pair (coerce l) g t n a1 a2) (TPair j b1 b2) h ∙ ap (λ x. cond x (coerce_parts (coerce l) g t n b1 b2 a1 a2) (refuse Mismatch)) (go (eqb j n) refl)
-  where
-    go : (x : Bool) → eqb j n ≡ x → eqb j n ≡ false
-    go true e = absurd (k (eqb-true j n e))
-    go false e = e
-
-abbrev pub IsNoPair : Node → Type 0
-IsNoPair n = (k a b : ℕ) → n ≡ node.TPair k a b → ⊥
-
-no_pair : (go : Lookups) (s : Stored) (g : Assumptions) (t : Tree) (k : ℕ) (a b : Tree) (n : Node) → IsNoPair n → coerce_pair (coerce go) g t k a b (node_tree s n) ≡ Refused Mismatch
-no_pair l s g t k a b (node.TPair j x y) h = absurd (h j x y refl)
-no_pair l s g t k a b node.TBool h = refl
-no_pair l s g t k a b (node.TName r) h = refl
-no_pair l s g t k a b (node.TSub x y) h = refl
-no_pair l s g t k a b (node.TFun x y) h = refl
-no_pair l s g t k a b (node.Tup j x y) h = refl
-no_pair l s g t k a b (node.Var n) h = refl
-no_pair l s g t k a b (node.Const r) h = refl
-no_pair l s g t k a b node.True h = refl
-no_pair l s g t k a b node.False h = refl
-no_pair l s g t k a b (node.Lam x y) h = refl
-no_pair l s g t k a b (node.App x y) h = refl
-no_pair l s g t k a b (node.Fst j x) h = refl
-no_pair l s g t k a b (node.Snd j x) h = refl
-no_pair l s g t k a b (node.If x y z) h = refl
-no_pair l s g t k a b (node.Eq x y) h = refl
-
-pub pair_none : (l : Lookups) (s : Stored) (g : Assumptions) (t b d : Tree) (k : ℕ) (a1 a2 : Tree) (n : Node) → head l b ≡ Ok d → d ≡ node_tree s n → IsNoPair n
-    → coerce_to l (coerce l) g t b (TPair k a1 a2) ≡ Refused Mismatch
-pair_none l s g t b d k a1 a2 n h e j = result_then (head l b) (coerce_pair (coerce l) g t k a1 a2) d h ∙ ap (coerce_pair (coerce l) g t k a1 a2) e ∙ no_pair l s g t k a1 a2 n j
-
 pub head_smaller : (l : Lookups) → IsOrdered l → (b d : Tree) → head l b ≡ Ok d → type_size l.rank d ≤ type_size l.rank b
 head_smaller l ordered b d e = IfOk-at_ok (λ u. type_size l.rank u ≤ type_size l.rank b) e (head_size l ordered b)
 
@@ -329,3 +307,203 @@ pub pair_fault : {s t : Stored} {P Q : Sort → Ref → Type 0} {l m : Lookups} 
     → IsFault (coerce_to l (coerce l) (context_at s g.items) (tree_at s a) (tree_at s b) (TPair n (tree_at s a1) (tree_at s a2))) x
 pair_fault {s} {t} {l = l} g n a b f b1 b2 a1 a2 x k h j e i y =
     fault_as _ _ x (pair_case l (context_at s g.items) (tree_at s a) (tree_at s b) n (tree_at t b1) (tree_at t b2) (tree_at s a1) (tree_at s a2) (e ∙ ap (λ z. Ok z) i) ∙ sym (parts_same g n a b1 b2 a1 a2 k h.context h.term h.to j)) y
+
+-- between function types
+pub application_follows : {s : Stored} {P : Sort → Ref → Type 0} (l : Lookups) (g : Context) (a d1 d2 r1 r2 : ℕ) → IsKnownCoercion s P g a d1 d2 → IsKnownCoercion s P g a r1 r2 → tree_eq (tree_at s d1) (tree_at s d2) ≡ true
+    → Follows l s P (coerce_function (coerce l) (context_at s g.items) (tree_at s a) (tree_at s d2) (tree_at s r2) (TFun (tree_at s d1) (tree_at s r1)))
+    (coercion_work l (TFun (tree_at s d1) (tree_at s r1)) (TFun (tree_at s d2) (tree_at s r2))) (One (Apply g d1 a r1 r2))
+application_follows {s} l g a d1 d2 r1 r2 h1 h2 e =
+    let c : Assumptions = context_at s g.items in
+    let f : Outcome (Unit {0}) = apply_outcome l c (tree_at s d1) (tree_at s a) (tree_at s r1) (tree_at s r2) in
+    let both : Outcome (Unit {0}) = within_limits (lift_one (tree_at s d1)) >>= (λ x. within_limits (lift_one (tree_at s d2)) >>= (λ y.
+        coerce l (Variable (tree_at s d1) ∷ c) (Var 0) x y >> coerce l (Variable (tree_at s d2) ∷ c) (Var 0) y x)) in
+    record {
+      known = (h1.from, h2);
+      outcome = sym (ap (λ x. cond x (pure tt) both >> f) e ∙ after_none f);
+      less = omega (
+        arith,
+        bound_less (type_size l.rank (tree_at s r1) + type_size l.rank (tree_at s r2)) (suc (type_size l.rank (tree_at s d1) + type_size l.rank (tree_at s r1)) + suc (type_size l.rank (tree_at s d2) + type_size l.rank (tree_at s r2))) (omega arith),
+      );
+    }
+
+pub domains_follow : {s t u : Stored} {P Q R : Sort → Ref → Type 0} {l m n : Lookups} (f1 f2 g : Context) (a d1 d2 r1 r2 c1 c2 v : ℕ) → Keeps s P l t Q m → Keeps t Q m u R n → f1.items ≡ assumed.Bind d1 ∷ g.items → f2.items ≡ assumed.Bind d2 ∷ g.items
+    → IsKnownCoercion s P g a d1 d2 → IsKnownCoercion s P g a r1 r2 → tree_eq (tree_at s d1) (tree_at s d2) ≡ false
+    → Gives t Q OfType (lift_one (tree_at s d1)) c1 → Gives t Q OfType (lift_one (tree_at s d2)) c2 → Gives u R OfTerm (Var 0) v
+    → Follows l u R (coerce_function (coerce l) (context_at s g.items) (tree_at s a) (tree_at s d2) (tree_at s r2) (TFun (tree_at s d1) (tree_at s r1)))
+    (coercion_work l (TFun (tree_at s d1) (tree_at s r1)) (TFun (tree_at s d2) (tree_at s r2))) (Three (Coerce f1 v c1 c2) (Coerce f2 v c2 c1) (Apply g d1 a r1 r2))
+domains_follow {s} {t} {u} {P} {Q} {R} {l} f1 f2 g a d1 d2 r1 r2 c1 c2 v k1 k2 e1 e2 h1 h2 e x1 x2 y =
+    let k = keeps_trans k1 k2 in
+    let z1 = gives_kept k2 x1 in
+    let z2 = gives_kept k2 x2 in
+    let c : Assumptions = context_at s g.items in
+    let t1 : Tree = tree_at s d1 in
+    let t2 : Tree = tree_at s d2 in
+    let f : Outcome (Unit {0}) = apply_outcome l c t1 (tree_at s a) (tree_at s r1) (tree_at s r2) in
+    let last : Tree → Tree → Outcome (Unit {0}) = λ x y. coerce l (Variable t1 ∷ c) (Var 0) x y >> coerce l (Variable t2 ∷ c) (Var 0) y x in
+    let both : Outcome (Unit {0}) = within_limits (lift_one t1) >>= (λ x. within_limits (lift_one t2) >>= (λ y. last x y)) in
+    let there : coerce l (context_at u f1.items) (tree_at u v) (tree_at u c1) (tree_at u c2) ≡ coerce l (Variable t1 ∷ c) (Var 0) (lift_one t1) (lift_one t2) =
+        rw (e1, k.stored.trees d1 h1.from.node, context_same g.items k h1.context, y.tree, z1.tree, z2.tree) refl in
+    let back : coerce l (context_at u f2.items) (tree_at u v) (tree_at u c2) (tree_at u c1) ≡ coerce l (Variable t2 ∷ c) (Var 0) (lift_one t2) (lift_one t1) =
+        rw (e2, k.stored.trees d2 h1.to.node, context_same g.items k h1.context, y.tree, z1.tree, z2.tree) refl in
+    let m1 : type_size l.rank (tree_at u c1) ≡ type_size l.rank t1 = ap (type_size l.rank) z1.tree ∙ type_size-lift l.rank t1 1 0 in
+    let m2 : type_size l.rank (tree_at u c2) ≡ type_size l.rank t2 = ap (type_size l.rank) z2.tree ∙ type_size-lift l.rank t2 1 0 in
+    let m3 : type_size l.rank (tree_at u r1) ≡ type_size l.rank (tree_at s r1) = ap (type_size l.rank) (k.stored.trees r1 h2.from.node) in
+    let m4 : type_size l.rank (tree_at u r2) ≡ type_size l.rank (tree_at s r2) = ap (type_size l.rank) (k.stored.trees r2 h2.to.node) in
+    let p1 = size_positive l.rank t1 in
+    let p2 = size_positive l.rank t2 in
+    let p3 = size_positive l.rank (tree_at s r1) in
+    let p4 = size_positive l.rank (tree_at s r2) in
+    let swap : type_size l.rank (tree_at u c2) + type_size l.rank (tree_at u c1) ≡ type_size l.rank (tree_at u c1) + type_size l.rank (tree_at u c2) = omega arith in
+    let inside : IsKnownContext u R g.items = context_kept g.items k h1.context in
+    record {
+      known = (
+        record { context = subst (IsKnownContext u R) (sym e1) (known_kept OfType d1 k h1.from, inside); term = y.known; from = z1.known; to = z2.known },
+        record { context = subst (IsKnownContext u R) (sym e2) (known_kept OfType d2 k h1.to, inside); term = y.known; from = z2.known; to = z1.known },
+        (known_kept OfType d1 k h1.from, coercion_kept k g a r1 r2 h2),
+      );
+      outcome = rw (there, back, task_same k l (Apply g d1 a r1 r2) (h1.from, h2))
+          (sym (ap (λ x. cond x (pure tt) both >> f) e ∙ ap (λ x. x >> f) (accepted_then (within_limits (lift_one t1)) (λ x. within_limits (lift_one t2) >>= (λ y. last x y)) (lift_one t1) (fits_within (lift_one t1) x1.fits)
+          ∙ accepted_then (within_limits (lift_one t2)) (λ y. last (lift_one t1) y) (lift_one t2) (fits_within (lift_one t2) x2.fits)) ∙ then_assoc _ _ f));
+      less = rw swap (bound_three (type_size l.rank (tree_at u c1) + type_size l.rank (tree_at u c2)) (type_size l.rank (tree_at u r1) + type_size l.rank (tree_at u r2))
+          (suc (type_size l.rank t1 + type_size l.rank (tree_at s r1)) + suc (type_size l.rank t2 + type_size l.rank (tree_at s r2))) (omega (arith, m1, m2, p3, p4)) (omega (arith, m3, m4, p1, p2)));
+    }
+
+-- the head is a function type
+function_case : (l : Lookups) (g : Assumptions) (t b : Tree) (b1 b2 a1 a2 : Tree) → head l b ≡ Ok (TFun b1 b2)
+    → coerce_to l (coerce l) g t b (TFun a1 a2) ≡ coerce_function (coerce l) g t a1 a2 (TFun b1 b2)
+function_case l g t b b1 b2 a1 a2 h = result_then (head l b) (coerce_function (coerce l) g t a1 a2) (TFun b1 b2) h
+
+function_same : {s t : Stored} {P Q : Sort → Ref → Type 0} {l m : Lookups} (g : Context) (a b1 b2 a1 a2 : ℕ) → Keeps s P l t Q m → IsKnownContext s P g.items → IsKnown s P OfTerm a → IsKnown s P OfType a1 → IsKnown s P OfType a2
+    → coerce_function (coerce m) (context_at t g.items) (tree_at t a) (tree_at t a1) (tree_at t a2) (TFun (tree_at t b1) (tree_at t b2))
+    ≡ coerce_function (coerce l) (context_at s g.items) (tree_at s a) (tree_at s a1) (tree_at s a2) (TFun (tree_at t b1) (tree_at t b2))
+function_same g a b1 b2 a1 a2 k c x y z = rw (k.lookups, context_same g.items k c, k.stored.trees a x.node, k.stored.trees a1 y.node, k.stored.trees a2 z.node) refl
+
+pub function_follows : {s t : Stored} {P Q : Sort → Ref → Type 0} {l m : Lookups} (u : Stored) (R : Sort → Ref → Type 0) (g : Context) (a b f b1 b2 a1 a2 : ℕ) (x : Next) → IsOrdered l → Keeps s P l t Q m → IsKnownCoercion s P g a b a1 → IsKnown s P OfType a2
+    → head l (tree_at s b) ≡ Ok (tree_at t f) → tree_at t f ≡ TFun (tree_at t b1) (tree_at t b2)
+    → Follows m u R (coerce_function (coerce m) (context_at t g.items) (tree_at t a) (tree_at t a1) (tree_at t a2) (TFun (tree_at t b1) (tree_at t b2))) (coercion_work m (TFun (tree_at t b1) (tree_at t b2)) (TFun (tree_at t a1) (tree_at t a2))) x
+    → Follows l u R (coerce_to l (coerce l) (context_at s g.items) (tree_at s a) (tree_at s b) (TFun (tree_at s a1) (tree_at s a2))) (coercion_work l (tree_at s b) (TFun (tree_at s a1) (tree_at s a2))) x
+function_follows {s} {t} {l = l} {m} u R g a b f b1 b2 a1 a2 x ordered k h j e i y =
+    let d : head l (tree_at s b) ≡ Ok (TFun (tree_at t b1) (tree_at t b2)) = e ∙ ap (λ z. Ok z) i in
+    let w : coercion_work m (TFun (tree_at t b1) (tree_at t b2)) (TFun (tree_at t a1) (tree_at t a2)) ≤ coercion_work l (tree_at s b) (TFun (tree_at s a1) (tree_at s a2)) =
+        subst (λ y. coercion_work y (TFun (tree_at t b1) (tree_at t b2)) (TFun (tree_at t a1) (tree_at t a2)) ≤ coercion_work l (tree_at s b) (TFun (tree_at s a1) (tree_at s a2))) (sym k.lookups)
+        (rw (k.stored.trees a1 h.to.node, k.stored.trees a2 j.node) (head_work l ordered (tree_at s b) (TFun (tree_at t b1) (tree_at t b2)) (TFun (tree_at s a1) (tree_at s a2)) d)) in
+    follows_under k.lookups y (function_same g a b1 b2 a1 a2 k h.context h.term h.to j ∙ sym (function_case l (context_at s g.items) (tree_at s a) (tree_at s b) (tree_at t b1) (tree_at t b2) (tree_at s a1) (tree_at s a2) d)) w
+
+pub function_fault : {s t : Stored} {P Q : Sort → Ref → Type 0} {l m : Lookups} (g : Context) (a b f b1 b2 a1 a2 : ℕ) (x : TypeFault) → Keeps s P l t Q m → IsKnownCoercion s P g a b a1 → IsKnown s P OfType a2
+    → head l (tree_at s b) ≡ Ok (tree_at t f) → tree_at t f ≡ TFun (tree_at t b1) (tree_at t b2)
+    → IsFault (coerce_function (coerce m) (context_at t g.items) (tree_at t a) (tree_at t a1) (tree_at t a2) (TFun (tree_at t b1) (tree_at t b2))) x
+    → IsFault (coerce_to l (coerce l) (context_at s g.items) (tree_at s a) (tree_at s b) (TFun (tree_at s a1) (tree_at s a2))) x
+function_fault {s} {t} {l = l} g a b f b1 b2 a1 a2 x k h j e i y =
+    fault_as _ _ x (function_case l (context_at s g.items) (tree_at s a) (tree_at s b) (tree_at t b1) (tree_at t b2) (tree_at s a1) (tree_at s a2) (e ∙ ap (λ z. Ok z) i) ∙ sym (function_same g a b1 b2 a1 a2 k h.context h.term h.to j)) y
+
+-- the predicate of a subtype
+pub satisfy_follows : {s t : Stored} {P Q : Sort → Ref → Type 0} {l m : Lookups} (n : Lookups) (g : Context) (p a goal : ℕ) → Keeps s P l t Q m → IsKnownContext s P g.items → IsKnown s P OfTerm p → IsKnown s P OfTerm a
+    → Stands t (put_in (tree_at s p) (tree_at s a)) goal
+    → Follows n t Q (satisfy_outcome (context_at s g.items) (tree_at s p) (tree_at s a)) 1 (Owe (record { context = g; goal = goal }))
+satisfy_follows {s} {t} {P} {Q} n g p a goal k c x y h =
+    let z = put_gives OfTerm p a goal k x y h in
+    let u : Tree = put_in (tree_at s p) (tree_at s a) in
+    record {
+      known = record { context = context_kept g.items k c; goal = z.known };
+      outcome = rw (context_same g.items k c, z.tree) (sym (accepted_then (within_limits u) (owe (context_at s g.items)) u (fits_within u z.fits)));
+      less = omega arith;
+    }
+
+-- the second component
+pub second_follows : {s t u : Stored} {P Q R : Sort → Ref → Type 0} {l m n : Lookups} (g : Context) (j a f b c x y z : ℕ) → Keeps s P l t Q m → Keeps t Q m u R n → IsKnownCoercion s P g a b c → IsKnown s P OfTerm f
+    → Gives t Q OfTerm (second_part j (tree_at s a)) x → Gives u R OfType (put_in (tree_at t b) (tree_at t f)) y → Gives u R OfType (put_in (tree_at t c) (tree_at t f)) z
+    → Follows l u R (second_outcome l (context_at s g.items) (tree_at s a) j (tree_at s f) (tree_at s b) (tree_at s c)) (suc (coercion_work l (tree_at s b) (tree_at s c))) (One (Coerce g x y z))
+second_follows {s} {t} {u} {P} {Q} {R} {l} g j a f b c x y z k1 k2 h i vx vy vz =
+    let k = keeps_trans k1 k2 in
+    let wx = gives_kept k2 vx in
+    let tx : Tree = second_part j (tree_at s a) in
+    let tb : Tree = put_in (tree_at s b) (tree_at s f) in
+    let tc : Tree = put_in (tree_at s c) (tree_at s f) in
+    let eb : put_in (tree_at t b) (tree_at t f) ≡ tb = rw (k1.stored.trees b h.from.node, k1.stored.trees f i.node) refl in
+    let ec : put_in (tree_at t c) (tree_at t f) ≡ tc = rw (k1.stored.trees c h.to.node, k1.stored.trees f i.node) refl in
+    let go : Tree → Tree → Tree → Outcome (Unit {0}) = coerce l (context_at s g.items) in
+    record {
+      known = record { context = context_kept g.items k h.context; term = wx.known; from = vy.known; to = vz.known };
+      outcome = rw (context_same g.items k h.context, wx.tree, vy.tree, vz.tree, eb, ec)
+          (sym (accepted_then (within_limits tx) (λ v. within_limits tb >>= (λ w. within_limits tc >>= (λ q. go v w q))) tx (fits_within tx vx.fits)
+          ∙ accepted_then (within_limits tb) (λ w. within_limits tc >>= (λ q. go tx w q)) tb (fits_within tb (subst IsWithinLimits eb vy.fits))
+          ∙ accepted_then (within_limits tc) (λ q. go tx tb q) tc (fits_within tc (subst IsWithinLimits ec vz.fits))));
+      less = rw (vy.tree, vz.tree, eb, ec, type_size-put_in l.rank (tree_at s b) (tree_at s f) i.sort, type_size-put_in l.rank (tree_at s c) (tree_at s f) i.sort) (omega arith);
+    }
+
+pub second_fault : {s t : Stored} {P Q : Sort → Ref → Type 0} {l m : Lookups} (n : Lookups) (g : Assumptions) (j a f b c x : ℕ) (e : TypeFault) → Keeps s P l t Q m → IsKnown s P OfTerm f → IsKnown s P OfType b → IsKnown s P OfType c
+    → Gives t Q OfTerm (second_part j (tree_at s a)) x → IsFault (both_within (put_in (tree_at t b) (tree_at t f)) (put_in (tree_at t c) (tree_at t f))) e
+    → IsFault (second_outcome n g (tree_at s a) j (tree_at s f) (tree_at s b) (tree_at s c)) e
+second_fault {s} n g j a f b c x fault.Memory k h i o v r = tt
+second_fault {s} {t} n g j a f b c x (fault.Refused q) k h i o v r =
+    let tx : Tree = second_part j (tree_at s a) in
+    let tb : Tree = put_in (tree_at s b) (tree_at s f) in
+    let tc : Tree = put_in (tree_at s c) (tree_at s f) in
+    let eb : put_in (tree_at t b) (tree_at t f) ≡ tb = rw (k.stored.trees b i.node, k.stored.trees f h.node) refl in
+    let ec : put_in (tree_at t c) (tree_at t f) ≡ tc = rw (k.stored.trees c o.node, k.stored.trees f h.node) refl in
+    let go : Tree → Tree → Tree → Outcome (Unit {0}) = coerce n g in
+    let w : both_within tb tc ≡ Refused q = rw (eb, ec) at r in
+    accepted_then (within_limits tx) (λ v. within_limits tb >>= (λ w. within_limits tc >>= (λ p. go v w p))) tx (fits_within tx v.fits)
+    ∙ both_refused (within_limits tb) (within_limits tc) (go tx) q w
+
+-- the application
+pub apply_follows : {s t : Stored} {P Q : Sort → Ref → Type 0} {l m : Lookups} (f g : Context) (d a b c x : ℕ) → Keeps s P l t Q m → f.items ≡ assumed.Bind d ∷ g.items → IsKnown s P OfType d → IsKnownCoercion s P g a b c
+    → Gives t Q OfTerm (application (tree_at s d) (tree_at s a)) x
+    → Follows l t Q (apply_outcome l (context_at s g.items) (tree_at s d) (tree_at s a) (tree_at s b) (tree_at s c)) (suc (coercion_work l (tree_at s b) (tree_at s c))) (One (Coerce f x b c))
+apply_follows {s} {t} {P} {Q} {l} f g d a b c x k e n h v =
+    let u : Tree = application (tree_at s d) (tree_at s a) in
+    record {
+      known = record { context = subst (IsKnownContext t Q) (sym e) (known_kept OfType d k n, context_kept g.items k h.context); term = v.known; from = known_kept OfType b k h.from; to = known_kept OfType c k h.to };
+      outcome = rw (e, k.stored.trees d n.node, context_same g.items k h.context, v.tree, k.stored.trees b h.from.node, k.stored.trees c h.to.node)
+          (sym (accepted_then (within_limits u) (λ y. coerce l (Variable (tree_at s d) ∷ context_at s g.items) y (tree_at s b) (tree_at s c)) u (fits_within u v.fits)));
+      less = rw (k.stored.trees b h.from.node, k.stored.trees c h.to.node) (omega arith);
+    }
+
+-- to a type of no other form
+abbrev pub IsOtherNode : Node → Type 0
+IsOtherNode n = ((r : ℕ) → n ≡ node.TName r → ⊥) × ((a p : ℕ) → n ≡ node.TSub a p → ⊥) × ((k a b : ℕ) → n ≡ node.TPair k a b → ⊥) × ((a b : ℕ) → n ≡ node.TFun a b → ⊥)
+
+other_case : (l : Lookups) (s : Stored) (g : Assumptions) (t b : Tree) (n : Node) → sort_of (node_tree s n) ≡ OfType → IsOtherNode n → coerce_to l (coerce l) g t b (node_tree s n) ≡ head_outcome l b (node_tree s n)
+other_case l s g t b node.TBool o h = refl
+other_case l s g t b (node.TName r) o h = absurd (h.0 r refl)
+other_case l s g t b (node.TSub a p) o h = absurd (h.1 a p refl)
+other_case l s g t b (node.TPair k x y) o h = absurd (h.2 k x y refl)
+other_case l s g t b (node.TFun x y) o h = absurd (h.3 x y refl)
+other_case l s g t b (node.Var n) o h = cc
+other_case l s g t b (node.Const r) o h = cc
+other_case l s g t b node.True o h = cc
+other_case l s g t b node.False o h = cc
+other_case l s g t b (node.Lam x y) o h = cc
+other_case l s g t b (node.App x y) o h = cc
+other_case l s g t b (node.Tup k x y) o h = cc
+other_case l s g t b (node.Fst k x) o h = cc
+other_case l s g t b (node.Snd k x) o h = cc
+other_case l s g t b (node.If x y z) o h = cc
+other_case l s g t b (node.Eq x y) o h = cc
+
+pub other_done : (l : Lookups) (s t : Stored) (Q : Sort → Ref → Type 0) (g : Assumptions) (a b c : Tree) (n : Node) → c ≡ node_tree s n → sort_of c ≡ OfType → IsOtherNode n → head_outcome l b c ≡ pure tt
+    → Follows l t Q (coerce_to l (coerce l) g a b c) (coercion_work l b c) Done
+other_done l s t Q g a b c n e o h x =
+    done_follows l t Q (coerce_to l (coerce l) g a b c) b c (rw e (other_case l s g a b n (rw e at o) h) ∙ rw e at x)
+
+-- The first case.
+
+pub above_follows : (l : Lookups) → IsOrdered l → (s : Stored) (P : Sort → Ref → Type 0) (g : Assumptions) (t b a : Tree) → IsSorted t → IsTerm t → is_above l b a ≡ Ok true → Follows l s P (coerce l g t b a) (coercion_work l b a) Done
+above_follows l ordered s P g t b a i h e = done_follows l s P (coerce l g t b a) b a (coerce_above l ordered g t b a i h e)
+
+pub to_follows : {s t : Stored} {P Q : Sort → Ref → Type 0} {l m : Lookups} (u : Stored) (R : Sort → Ref → Type 0) (g : Context) (a b c : ℕ) (x : Next) → IsOrdered l → Keeps s P l t Q m → IsKnownCoercion s P g a b c → IsSorted (tree_at s a)
+    → is_above l (tree_at s b) (tree_at s c) ≡ Ok false
+    → Follows m u R (coerce_to m (coerce m) (context_at t g.items) (tree_at t a) (tree_at t b) (tree_at t c)) (coercion_work m (tree_at t b) (tree_at t c)) x
+    → Follows l u R (coerce l (context_at s g.items) (tree_at s a) (tree_at s b) (tree_at s c)) (coercion_work l (tree_at s b) (tree_at s c)) x
+to_follows {s} {l = l} u R g a b c x ordered k h i e y =
+    let z : Follows l u R (coerce_to l (coerce l) (context_at s g.items) (tree_at s a) (tree_at s b) (tree_at s c)) (coercion_work l (tree_at s b) (tree_at s c)) x =
+        rw (k.lookups, context_same g.items k h.context, k.stored.trees a h.term.node, k.stored.trees b h.from.node, k.stored.trees c h.to.node) at y in
+    follows_as z (sym (coerce_not_above l ordered (context_at s g.items) (tree_at s a) (tree_at s b) (tree_at s c) i h.term.sort e)) (omega arith)
+
+pub to_fault : {s t : Stored} {P Q : Sort → Ref → Type 0} {l m : Lookups} (g : Context) (a b c : ℕ) (e : TypeFault) → IsOrdered l → Keeps s P l t Q m → IsKnownCoercion s P g a b c → IsSorted (tree_at s a)
+    → is_above l (tree_at s b) (tree_at s c) ≡ Ok false → IsFault (coerce_to m (coerce m) (context_at t g.items) (tree_at t a) (tree_at t b) (tree_at t c)) e
+    → IsFault (coerce l (context_at s g.items) (tree_at s a) (tree_at s b) (tree_at s c)) e
+to_fault {s} {l = l} g a b c e ordered k h i o y =
+    let z : IsFault (coerce_to l (coerce l) (context_at s g.items) (tree_at s a) (tree_at s b) (tree_at s c)) e =
+        rw (k.lookups, context_same g.items k h.context, k.stored.trees a h.term.node, k.stored.trees b h.from.node, k.stored.trees c h.to.node) at y in
+    fault_as _ _ e (coerce_not_above l ordered (context_at s g.items) (tree_at s a) (tree_at s b) (tree_at s c) i h.term.sort o) z

@@ -9,7 +9,7 @@ ghost use Rattle.pvs_types.specs.Forms.{is_among};
 ghost use Rattle.pvs_types.specs.Outcome.{within_limits};
 ghost use Rattle.pvs_types.specs.Coerce.{lift_one, application, first_part, second_part};
 ghost use Rattle.pvs_typing.specs.Growth.{AreKnown, IsKnown, Keeps, all_at};
-ghost use Rattle.pvs_typing.specs.code.Tasks.{both_lifted};
+ghost use Rattle.pvs_typing.specs.code.Tasks.{both_within};
 ghost use Rattle.pvs_typing.specs.Answers.{Gives, IsFault, IsMemory};
 
 use crate::fault::TypeFault;
@@ -101,7 +101,7 @@ pub(crate) fn lift_both<T: Theories>(
     requires second { IsKnown (T.stored theories.old) (T.declares theories.old theory) OfType second }
     ensures first { IfOk result (λ p. Gives (T.stored theories.new) (T.declares theories.new theory) OfType (lift_one (tree_at (T.stored theories.old) first)) p.0) }
     ensures second { IfOk result (λ p. Gives (T.stored theories.new) (T.declares theories.new theory) OfType (lift_one (tree_at (T.stored theories.old) second)) p.1) }
-    ensures refused { IfErr result (IsFault (both_lifted (tree_at (T.stored theories.old) first) (tree_at (T.stored theories.old) second))) }
+    ensures refused { IfErr result (IsFault (both_within (lift_one (tree_at (T.stored theories.old) first)) (lift_one (tree_at (T.stored theories.old) second)))) }
     ensures kept { Keeps (T.stored theories.old) (T.declares theories.old theory) (T.lookups theories.old theory) (T.stored theories.new) (T.declares theories.new theory) (T.lookups theories.new theory) }
 {
     let lifted_first = lift_type(theories, theory, first)?;
@@ -121,7 +121,7 @@ pub(crate) fn new_variable<T: Theories>(theories: &mut T, _theory: Name) -> Resu
 }
 
 /// A type with a term substituted for its index 0.
-pub(crate) fn substitute<T: Theories>(
+fn substitute<T: Theories>(
     theories: &mut T,
     _theory: Name,
     body: Id,
@@ -136,6 +136,28 @@ pub(crate) fn substitute<T: Theories>(
 {
     let made = theories.put_in(body, arg)?;
     Ok(made)
+}
+
+/// Two types with a term substituted for their index 0.
+pub(crate) fn substitute_both<T: Theories>(
+    theories: &mut T,
+    theory: Name,
+    first: Id,
+    second: Id,
+    arg: Id,
+) -> Result<(Id, Id), TypeFault>
+    requires theory { IsName (T.stored theories.old) theory }
+    requires first { IsKnown (T.stored theories.old) (T.declares theories.old theory) OfType first }
+    requires second { IsKnown (T.stored theories.old) (T.declares theories.old theory) OfType second }
+    requires arg { IsKnown (T.stored theories.old) (T.declares theories.old theory) OfTerm arg }
+    ensures first { IfOk result (λ p. Gives (T.stored theories.new) (T.declares theories.new theory) OfType (put_in (tree_at (T.stored theories.old) first) (tree_at (T.stored theories.old) arg)) p.0) }
+    ensures second { IfOk result (λ p. Gives (T.stored theories.new) (T.declares theories.new theory) OfType (put_in (tree_at (T.stored theories.old) second) (tree_at (T.stored theories.old) arg)) p.1) }
+    ensures refused { IfErr result (IsFault (both_within (put_in (tree_at (T.stored theories.old) first) (tree_at (T.stored theories.old) arg)) (put_in (tree_at (T.stored theories.old) second) (tree_at (T.stored theories.old) arg)))) }
+    ensures kept { Keeps (T.stored theories.old) (T.declares theories.old theory) (T.lookups theories.old theory) (T.stored theories.new) (T.declares theories.new theory) (T.lookups theories.new theory) }
+{
+    let first_made = substitute(theories, theory, first, arg)?;
+    let second_made = substitute(theories, theory, second, arg)?;
+    Ok((first_made, second_made))
 }
 
 /// A lifted term, applied to a new variable.

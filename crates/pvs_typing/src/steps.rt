@@ -17,9 +17,7 @@ use crate::contexts::{copy_context, enter_context};
 use crate::fault::TypeFault;
 use crate::forms::{head_of, up_of};
 use crate::nodes::{is_same, known_node};
-use crate::parts::{
-    application, first_part, is_among, lift_both, new_variable, second_part, substitute,
-};
+use crate::parts::{application, first_part, is_among, lift_both, new_variable, second_part, substitute_both};
 use crate::tasks::{Next, Task};
 use crate::theories::Theories;
 use pvs_base::Code;
@@ -47,7 +45,12 @@ fn is_above<T: Theories>(
 }
 
 /// Nothing, where the head of the one type is the other.
-fn same_head<T: Theories>(theories: &mut T, theory: Name, from: Id, to: Id) -> Result<(), TypeFault>
+fn same_head<T: Theories>(
+    theories: &mut T,
+    theory: Name,
+    from: Id,
+    to: Id,
+) -> Result<(), TypeFault>
     requires theory { IsName (T.stored theories.old) theory }
     requires from { IsKnown (T.stored theories.old) (T.declares theories.old theory) OfType from }
     requires to { IsKnown (T.stored theories.old) (T.declares theories.old theory) OfType to }
@@ -443,8 +446,7 @@ fn second_step<T: Theories>(
     ensures kept { Keeps (T.stored theories.old) (T.declares theories.old theory) (T.lookups theories.old theory) (T.stored theories.new) (T.declares theories.new theory) (T.lookups theories.new theory) }
 {
     let second = second_part(theories, theory, components, term)?;
-    let second_from = substitute(theories, theory, from, first)?;
-    let second_to = substitute(theories, theory, to, first)?;
+    let (second_from, second_to) = substitute_both(theories, theory, from, to, first)?;
     Ok(Next::One(Task::Coerce {
         context,
         term: second,

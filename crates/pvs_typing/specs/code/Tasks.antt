@@ -9,11 +9,11 @@ use Rattle.pvs_subst.specs.Contexts.{Assumptions, Variable, context_at}
 use Rattle.pvs_subst.specs.declared.context.Condition.{Condition}
 use Rattle.pvs_subst.specs.declared.context.Context.{Context}
 use Rattle.pvs_sig.specs.Lookups.{Lookups, type_size}
-use Rattle.pvs_types.specs.Outcome.{Outcome, Accepted, ◌>>=◌, ◌>>◌, pure, owe, from_result, within_limits}
+use Rattle.pvs_types.specs.Outcome.{Outcome, Accepted, outcome_after, ◌>>=◌, ◌>>◌, pure, owe, from_result, within_limits}
 use Rattle.pvs_types.specs.Forms.{head}
 use Rattle.pvs_types.specs.Coerce.{lift_one, application, second_part, same_type, coerce}
 use Rattle.pvs_typing.specs.Growth.{IsKnown, IsKnownContext}
-use Rattle.pvs_typing.specs.Owed.{condition_at, IsKnownCondition}
+use Rattle.pvs_typing.specs.Owed.{condition_at, conditions_at, IsKnownCondition, AreKnownConditions}
 use Rattle.pvs_typing.specs.declared.tasks.Task.{Task}
 use Rattle.pvs_typing.specs.declared.tasks.Task.TheVariants.{Coerce, Satisfy, Second, Apply}
 use Rattle.pvs_typing.specs.declared.tasks.Next.{Next}
@@ -132,9 +132,19 @@ conditions_after cs (One x) = cs
 conditions_after cs (Two x y) = cs
 conditions_after cs (Three x y z) = cs
 
--- two lifted types, each within the limits
-abbrev pub both_lifted : Tree → Tree → Outcome (Tree × Tree)
-both_lifted a b = do
-  c ← within_limits (lift_one a)
-  d ← within_limits (lift_one b)
+-- two steps that each give a tree
+abbrev pub both : Outcome Tree → Outcome Tree → Outcome (Tree × Tree)
+both o u = do
+  c ← o
+  d ← u
   pure (c, d)
+
+-- two trees, the first of which is to be within the limits first
+abbrev pub both_within : Tree → Tree → Outcome (Tree × Tree)
+both_within a b = both (within_limits a) (within_limits b)
+
+-- what is owed so far, and then what the tasks stand for, is the outcome
+pub record Leaves (l : Lookups) (s : Stored) (P : Sort → Ref → Type 0) (o : Outcome (Unit {0})) (cs : List Condition) (ts : List Task) : Type 0 where
+  pub tasks : AreKnownTasks s P ts
+  pub conditions : AreKnownConditions s P cs
+  pub same : o ≡ outcome_after (conditions_at s cs) [] (stack_outcome l s ts (pure tt))
