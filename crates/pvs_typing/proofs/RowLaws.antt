@@ -1,23 +1,21 @@
 -- Laws of the rows of typing.
-use Rattle.std.proofs.Common.{◌≡◌, ◌≤◌, List, [], ◌++◌, Option, Some, None, Result, Ok, Err, refl, ap, ◌∙◌, sym, subst, arith}
-use Rattle.std.proofs.Common.{ℕ, zero, suc, ◌+◌, ◌∷◌, Bool, true, false, cond, add-one}
+use Rattle.std.proofs.Common.{◌≡◌, List, [], ◌++◌, Option, Some, None, Result, Ok, Err, refl, ap, ◌∙◌, subst, arith}
+use Rattle.std.proofs.Common.{ℕ, zero, suc, ◌+◌, ◌∷◌, true, cond, add-one}
 use Rattle.pvs_base.specs.declared.code.Code.{Code}
-use Rattle.pvs_base.specs.declared.code.Code.TheVariants.{Unknown, TooLarge}
-use Rattle.pvs_terms.specs.declared.node.Node.{Node}
-use Rattle.pvs_terms.specs.declared.node.Node.TheVariants as node
+use Rattle.pvs_base.specs.declared.code.Code.TheVariants.{Unknown}
 use Rattle.pvs_terms.specs.declared.shape.Plain.TheVariants.{BoolType, Yes, No}
 use Rattle.pvs_terms.specs.declared.shape.Binder.TheVariants.{Subtype, Function, Product, Lambda}
 use Rattle.pvs_terms.specs.declared.shape.Sort.{Sort}
 use Rattle.pvs_terms.specs.declared.shape.Sort.TheVariants.{OfType}
-use Rattle.pvs_terms.specs.Stored.{Stored, Stands, node_tree, tree_at}
-use Rattle.pvs_terms.specs.Tree.{Leaf, Var, Name, Bind, Join, Project, If, Ref, Lam, Const, tree_eq}
+use Rattle.pvs_terms.specs.Stored.{Stored, Stands, tree_at}
+use Rattle.pvs_terms.specs.Tree.{Leaf, Var, Name, Bind, Join, Project, If, Ref, Lam, Const}
 use Rattle.pvs_subst.specs.Contexts.{context_at}
 use Rattle.pvs_subst.specs.Replace.{lift}
 use Rattle.pvs_subst.specs.declared.context.Assumed.{Assumed}
 use Rattle.pvs_subst.specs.declared.context.Assumed.TheVariants as assumed
 use Rattle.pvs_subst.proofs.SortLaws.{sort_of-lift}
 use Rattle.pvs_types.specs.Symbols.{symbols}
-use Rattle.pvs_types.specs.Typing.{binder_type, lift_option, variable_type, variable_infer, constant_infer, is_forall}
+use Rattle.pvs_types.specs.Typing.{binder_type, lift_option, variable_infer, constant_infer, is_forall}
 use Rattle.pvs_types.specs.Outcome.{from_option, uses, within_limits}
 use Rattle.pvs_typing.specs.Answers.{IsType, Gives, tree_option}
 use Rattle.pvs_typing.specs.Growth.{IsKnown, IsKnownContext, Keeps}
@@ -28,8 +26,8 @@ use Rattle.pvs_types.specs.Typing.{well_formed}
 use Rattle.pvs_typing.specs.Owed.{conditions_at, AreKnownConditions}
 use Rattle.pvs_typing.specs.Judging.{Accepts, Answers}
 use Rattle.pvs_typing.proofs.JudgingLaws.{append_none}
-use Rattle.pvs_typing.specs.code.Rows.{binder_at, is_true_on, is_truth}
-use Rattle.pvs_typing.proofs.GrowthLaws.{each-lift, each_weaker}
+use Rattle.pvs_typing.specs.code.Rows.{binder_at, is_true_on}
+use Rattle.pvs_typing.proofs.GrowthLaws.{each-lift}
 use Rattle.pvs_typing.proofs.PartLaws.{fits_within, made_gives}
 use Rattle.pvs_terms.specs.Tree.{Tree, True, False, TPair, IsWithinLimits}
 use Rattle.pvs_subst.specs.Contexts.{Assumptions}

@@ -25,7 +25,7 @@ use crate::fault::TypeFault;
 use crate::forms::{head_of, up_of};
 use crate::most::most_of;
 use crate::nodes::{is_same, known_node};
-use crate::parts::{is_among, substitute};
+use crate::parts::{is_among, lift_type, substitute};
 use crate::theories::Theories;
 use pvs_base::Code;
 use pvs_subst::{Assumed, Condition, Context};
@@ -136,22 +136,6 @@ pub(crate) fn pair_type<T: Theories>(
     Ok(made)
 }
 
-/// A type under one more variable.
-pub(crate) fn type_above<T: Theories>(
-    theories: &mut T,
-    theory: Name,
-    ty: Id,
-) -> Result<Id, TypeFault>
-    requires theory { IsName (T.stored theories.old) theory }
-    requires ty { IsKnown (T.stored theories.old) (T.declares theories.old theory) OfType ty }
-    ensures ok { IfOk result (Gives (T.stored theories.new) (T.declares theories.new theory) OfType (lift_one (tree_at (T.stored theories.old) ty))) }
-    ensures refused { IfErr result (IsFault (within_limits (lift_one (tree_at (T.stored theories.old) ty)))) }
-    ensures kept { Keeps (T.stored theories.old) (T.declares theories.old theory) (T.lookups theories.old theory) (T.stored theories.new) (T.declares theories.new theory) (T.lookups theories.new theory) }
-{
-    let lifted = theories.lift(ty, 1, 0)?;
-    Ok(lifted)
-}
-
 /// The type of a tuple, whose other components do not depend on the first.
 pub(crate) fn tuple_type<T: Theories>(
     theories: &mut T,
@@ -168,7 +152,7 @@ pub(crate) fn tuple_type<T: Theories>(
     ensures refused { IfErr result (IsFault (within_limits (TPair components (tree_at (T.stored theories.old) first) (lift_one (tree_at (T.stored theories.old) second))))) }
     ensures kept { Keeps (T.stored theories.old) (T.declares theories.old theory) (T.lookups theories.old theory) (T.stored theories.new) (T.declares theories.new theory) (T.lookups theories.new theory) }
 {
-    let lifted = type_above(theories, theory, second)?;
+    let lifted = lift_type(theories, theory, second)?;
     pair_type(theories, theory, components, first, lifted)
 }
 

@@ -1,4 +1,4 @@
-use Rattle.std.proofs.Common.{◌≡◌, ◌∷◌, ◌++◌, [], ap, ◌∙◌, sym, subst, arith, rules}
+use Rattle.std.proofs.Common.{◌≡◌, ◌++◌, ap, ◌∙◌, sym, subst, rules}
 use Rattle.pvs_terms.specs.Tree.{ref_size, trees_size}
 use Rattle.pvs_terms.specs.Stored.{AreNodes, ref_at, tree_at, trees_at}
 use Rattle.pvs_subst.proofs.SizeLaws.{size-positive}

@@ -1,23 +1,19 @@
-use Rattle.std.proofs.Common.{◌≡◌, ◌∷◌, [], ◌<◌, ◌+◌, ◌*◌, max, true, false, cond, Ok, Err, Some, None, refl, ap, ◌∙◌, sym, subst, arith, rules}
-use Rattle.pvs_terms.specs.Tree.{Tree, TBool, TFun, TPair, Fst, Lam, Eq}
+use Rattle.std.proofs.Common.{◌∷◌, ap, sym, subst, arith}
+use Rattle.pvs_terms.specs.Tree.{TBool, TFun, TPair}
 use Rattle.pvs_terms.specs.Stored.{tree_at, ref_at}
 use Rattle.pvs_typing.proofs.RowLaws.{name_formed}
 use Rattle.pvs_terms.specs.declared.shape.Sort.TheVariants.{OfType, OfTerm}
-use Rattle.pvs_terms.specs.declared.shape.Joint.TheVariants.{Equal}
 use Rattle.pvs_sig.specs.Lookups.{IsOrdered}
 use Rattle.pvs_subst.specs.Replace.{put_in}
 use Rattle.pvs_subst.specs.Contexts.{Variable, Hypothesis, context_at}
 use Rattle.pvs_types.specs.Outcome.{pure, from_result, within_limits}
 use Rattle.pvs_types.specs.Forms.{head}
 use Rattle.pvs_types.specs.Coerce.{coerce, lift_one}
-use Rattle.pvs_types.specs.Typing.{function_of, negation, infer, check, well_formed, equal_infer, join_infer}
-use Rattle.pvs_typing.specs.Growth.{IsKnownContext}
-use Rattle.pvs_typing.specs.Judging.{Answers, IsGiven}
-use Rattle.pvs_typing.specs.Owed.{conditions_at}
-use Rattle.pvs_typing.specs.code.Rows.{lambda_body, apply_at, apply_to, tuple_second, equal_right, equal_sides, first_type, second_type, branches, other_branch, else_branch, joined, checked_branches, checked_other, inferred_check, forall_infer}
+use Rattle.pvs_types.specs.Typing.{function_of, infer, check, well_formed}
+use Rattle.pvs_typing.specs.code.Rows.{lambda_body, apply_at, apply_to, tuple_second, equal_right, equal_sides, first_type, second_type, branches, other_branch, else_branch, joined, checked_branches, checked_other}
 use Rattle.pvs_typing.proofs.GrowthLaws.{context_kept, keeps_trans, known_kept}
 use Rattle.pvs_typing.proofs.OwedLaws.{after_none, conditions_kept}
-use Rattle.pvs_typing.proofs.JudgingLaws.{answers_as, answers_fault, answers_then, coercion_answers, given_kept, given_under, made_accepts, made_answers, pure_answers, quiet, quiet_accepts, result_err, row1, row2, row3, row4, row5, then_assoc}
+use Rattle.pvs_typing.proofs.JudgingLaws.{answers_as, coercion_answers, given_kept, given_under, made_accepts, made_answers, quiet, quiet_accepts, row1, row2, row3, row4, row5, then_assoc}
 use Rattle.pvs_typing.proofs.typing.+typing.Goals as goal
 
 pub lambda_of-returns-clause-answer : goal.lambda_of-returns-clause-answer
