@@ -8,3 +8,5 @@ pub mod RowLaws
 pub mod TaskLaws
 pub mod SymbolLaws
 pub mod StackLaws
+pub mod MentionLaws
+pub mod GeneralLaws

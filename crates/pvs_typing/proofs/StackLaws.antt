@@ -104,7 +104,7 @@ loop_goes_on {t} {u} {Q} {R} {l} {o = o} cs ds xs ts us x y h e i k f c d =
     let known = known_split t Q xs x (subst (AreKnownTasks t Q) e h.tasks) in
     let f : Follows l u R (task_outcome l t x) (task_work l t x) y = rw i at f in
     let now : outcome_after (conditions_at u cs) [] (next_outcome l u y >> stack_outcome l u xs (pure tt)) ≡ outcome_after (conditions_at t cs) [] (task_outcome l t x >> stack_outcome l t xs (pure tt)) =
-        rw (conditions_same cs k h.conditions, f.outcome, stack_same k l xs (pure tt) known.0) refl in
+    rw (conditions_same cs k h.conditions, f.outcome, stack_same k l xs (pure tt) known.0) refl in
     record {
       tasks = rw d (tasks_added u R xs y (tasks_kept k xs known.0) f.known);
       conditions = rw c (conditions_added u R cs y (conditions_kept cs k h.conditions) f.known);

@@ -316,7 +316,7 @@ application_follows {s} l g a d1 d2 r1 r2 h1 h2 e =
     let c : Assumptions = context_at s g.items in
     let f : Outcome (Unit {0}) = apply_outcome l c (tree_at s d1) (tree_at s a) (tree_at s r1) (tree_at s r2) in
     let both : Outcome (Unit {0}) = within_limits (lift_one (tree_at s d1)) >>= (λ x. within_limits (lift_one (tree_at s d2)) >>= (λ y.
-        coerce l (Variable (tree_at s d1) ∷ c) (Var 0) x y >> coerce l (Variable (tree_at s d2) ∷ c) (Var 0) y x)) in
+    coerce l (Variable (tree_at s d1) ∷ c) (Var 0) x y >> coerce l (Variable (tree_at s d2) ∷ c) (Var 0) y x)) in
     record {
       known = (h1.from, h2);
       outcome = sym (ap (λ x. cond x (pure tt) both >> f) e ∙ after_none f);
@@ -342,9 +342,9 @@ domains_follow {s} {t} {u} {P} {Q} {R} {l} f1 f2 g a d1 d2 r1 r2 c1 c2 v k1 k2 e
     let last : Tree → Tree → Outcome (Unit {0}) = λ x y. coerce l (Variable t1 ∷ c) (Var 0) x y >> coerce l (Variable t2 ∷ c) (Var 0) y x in
     let both : Outcome (Unit {0}) = within_limits (lift_one t1) >>= (λ x. within_limits (lift_one t2) >>= (λ y. last x y)) in
     let there : coerce l (context_at u f1.items) (tree_at u v) (tree_at u c1) (tree_at u c2) ≡ coerce l (Variable t1 ∷ c) (Var 0) (lift_one t1) (lift_one t2) =
-        rw (e1, k.stored.trees d1 h1.from.node, context_same g.items k h1.context, y.tree, z1.tree, z2.tree) refl in
+    rw (e1, k.stored.trees d1 h1.from.node, context_same g.items k h1.context, y.tree, z1.tree, z2.tree) refl in
     let back : coerce l (context_at u f2.items) (tree_at u v) (tree_at u c2) (tree_at u c1) ≡ coerce l (Variable t2 ∷ c) (Var 0) (lift_one t2) (lift_one t1) =
-        rw (e2, k.stored.trees d2 h1.to.node, context_same g.items k h1.context, y.tree, z1.tree, z2.tree) refl in
+    rw (e2, k.stored.trees d2 h1.to.node, context_same g.items k h1.context, y.tree, z1.tree, z2.tree) refl in
     let m1 : type_size l.rank (tree_at u c1) ≡ type_size l.rank t1 = ap (type_size l.rank) z1.tree ∙ type_size-lift l.rank t1 1 0 in
     let m2 : type_size l.rank (tree_at u c2) ≡ type_size l.rank t2 = ap (type_size l.rank) z2.tree ∙ type_size-lift l.rank t2 1 0 in
     let m3 : type_size l.rank (tree_at u r1) ≡ type_size l.rank (tree_at s r1) = ap (type_size l.rank) (k.stored.trees r1 h2.from.node) in
@@ -385,8 +385,8 @@ pub function_follows : {s t : Stored} {P Q : Sort → Ref → Type 0} {l m : Loo
 function_follows {s} {t} {l = l} {m} u R g a b f b1 b2 a1 a2 x ordered k h j e i y =
     let d : head l (tree_at s b) ≡ Ok (TFun (tree_at t b1) (tree_at t b2)) = e ∙ ap (λ z. Ok z) i in
     let w : coercion_work m (TFun (tree_at t b1) (tree_at t b2)) (TFun (tree_at t a1) (tree_at t a2)) ≤ coercion_work l (tree_at s b) (TFun (tree_at s a1) (tree_at s a2)) =
-        subst (λ y. coercion_work y (TFun (tree_at t b1) (tree_at t b2)) (TFun (tree_at t a1) (tree_at t a2)) ≤ coercion_work l (tree_at s b) (TFun (tree_at s a1) (tree_at s a2))) (sym k.lookups)
-        (rw (k.stored.trees a1 h.to.node, k.stored.trees a2 j.node) (head_work l ordered (tree_at s b) (TFun (tree_at t b1) (tree_at t b2)) (TFun (tree_at s a1) (tree_at s a2)) d)) in
+    subst (λ y. coercion_work y (TFun (tree_at t b1) (tree_at t b2)) (TFun (tree_at t a1) (tree_at t a2)) ≤ coercion_work l (tree_at s b) (TFun (tree_at s a1) (tree_at s a2))) (sym k.lookups)
+    (rw (k.stored.trees a1 h.to.node, k.stored.trees a2 j.node) (head_work l ordered (tree_at s b) (TFun (tree_at t b1) (tree_at t b2)) (TFun (tree_at s a1) (tree_at s a2)) d)) in
     follows_under k.lookups y (function_same g a b1 b2 a1 a2 k h.context h.term h.to j ∙ sym (function_case l (context_at s g.items) (tree_at s a) (tree_at s b) (tree_at t b1) (tree_at t b2) (tree_at s a1) (tree_at s a2) d)) w
 
 pub function_fault : {s t : Stored} {P Q : Sort → Ref → Type 0} {l m : Lookups} (g : Context) (a b f b1 b2 a1 a2 : ℕ) (x : TypeFault) → Keeps s P l t Q m → IsKnownCoercion s P g a b a1 → IsKnown s P OfType a2
@@ -497,7 +497,7 @@ pub to_follows : {s t : Stored} {P Q : Sort → Ref → Type 0} {l m : Lookups} 
     → Follows l u R (coerce l (context_at s g.items) (tree_at s a) (tree_at s b) (tree_at s c)) (coercion_work l (tree_at s b) (tree_at s c)) x
 to_follows {s} {l = l} u R g a b c x ordered k h i e y =
     let z : Follows l u R (coerce_to l (coerce l) (context_at s g.items) (tree_at s a) (tree_at s b) (tree_at s c)) (coercion_work l (tree_at s b) (tree_at s c)) x =
-        rw (k.lookups, context_same g.items k h.context, k.stored.trees a h.term.node, k.stored.trees b h.from.node, k.stored.trees c h.to.node) at y in
+    rw (k.lookups, context_same g.items k h.context, k.stored.trees a h.term.node, k.stored.trees b h.from.node, k.stored.trees c h.to.node) at y in
     follows_as z (sym (coerce_not_above l ordered (context_at s g.items) (tree_at s a) (tree_at s b) (tree_at s c) i h.term.sort e)) (omega arith)
 
 pub to_fault : {s t : Stored} {P Q : Sort → Ref → Type 0} {l m : Lookups} (g : Context) (a b c : ℕ) (e : TypeFault) → IsOrdered l → Keeps s P l t Q m → IsKnownCoercion s P g a b c → IsSorted (tree_at s a)
@@ -505,5 +505,5 @@ pub to_fault : {s t : Stored} {P Q : Sort → Ref → Type 0} {l m : Lookups} (g
     → IsFault (coerce l (context_at s g.items) (tree_at s a) (tree_at s b) (tree_at s c)) e
 to_fault {s} {l = l} g a b c e ordered k h i o y =
     let z : IsFault (coerce_to l (coerce l) (context_at s g.items) (tree_at s a) (tree_at s b) (tree_at s c)) e =
-        rw (k.lookups, context_same g.items k h.context, k.stored.trees a h.term.node, k.stored.trees b h.from.node, k.stored.trees c h.to.node) at y in
+    rw (k.lookups, context_same g.items k h.context, k.stored.trees a h.term.node, k.stored.trees b h.from.node, k.stored.trees c h.to.node) at y in
     fault_as _ _ e (coerce_not_above l ordered (context_at s g.items) (tree_at s a) (tree_at s b) (tree_at s c) i h.term.sort o) z

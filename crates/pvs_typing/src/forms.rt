@@ -15,7 +15,11 @@ use pvs_subst::Context;
 use pvs_terms::{Id, Name, Node};
 
 /// The body of a defined name, or the supertype of a predicate subtype.
-fn next_above<T: Theories>(theories: &mut T, theory: Name, ty: Id) -> Result<Option<Id>, TypeFault>
+pub(crate) fn next_above<T: Theories>(
+    theories: &mut T,
+    theory: Name,
+    ty: Id,
+) -> Result<Option<Id>, TypeFault>
     requires theory { IsName (T.stored theories.old) theory }
     requires ty { IsKnown (T.stored theories.old) (T.declares theories.old theory) OfType ty }
     ensures ok { IfOk result (λ o. next_above (T.lookups theories.old theory) (tree_at (T.stored theories.old) ty) ≡ Ok (tree_option (T.stored theories.new) o)) }

@@ -23,7 +23,7 @@ use crate::coercion::coerce_of;
 use crate::contexts::enter_context;
 use crate::fault::TypeFault;
 use crate::forms::{head_of, up_of};
-use crate::most::most_of;
+use crate::general::most_of;
 use crate::nodes::{is_same, known_node};
 use crate::parts::{is_among, lift_type, substitute};
 use crate::theories::Theories;

@@ -17,7 +17,9 @@ use crate::contexts::{copy_context, enter_context};
 use crate::fault::TypeFault;
 use crate::forms::{head_of, up_of};
 use crate::nodes::{is_same, known_node};
-use crate::parts::{application, first_part, is_among, lift_both, new_variable, second_part, substitute_both};
+use crate::parts::{
+    application, first_part, is_among, lift_both, new_variable, second_part, substitute_both,
+};
 use crate::tasks::{Next, Task};
 use crate::theories::Theories;
 use pvs_base::Code;
@@ -45,12 +47,7 @@ fn is_above<T: Theories>(
 }
 
 /// Nothing, where the head of the one type is the other.
-fn same_head<T: Theories>(
-    theories: &mut T,
-    theory: Name,
-    from: Id,
-    to: Id,
-) -> Result<(), TypeFault>
+fn same_head<T: Theories>(theories: &mut T, theory: Name, from: Id, to: Id) -> Result<(), TypeFault>
     requires theory { IsName (T.stored theories.old) theory }
     requires from { IsKnown (T.stored theories.old) (T.declares theories.old theory) OfType from }
     requires to { IsKnown (T.stored theories.old) (T.declares theories.old theory) OfType to }
