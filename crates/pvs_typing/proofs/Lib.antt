@@ -3,7 +3,10 @@ pub mod FormsOver
 pub mod OwedLaws
 pub mod NodeLaws
 pub mod PartLaws
+pub mod JudgingLaws
+pub mod RowLaws
 pub mod TaskLaws
+pub mod SymbolLaws
 pub mod StackLaws
 pub mod MentionLaws
 pub mod GeneralLaws

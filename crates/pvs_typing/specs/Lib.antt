@@ -1,6 +1,7 @@
 pub mod Growth
 pub mod Answers
 pub mod Above
+pub mod Judging
 pub mod Nodes
 pub mod Owed
 pub mod code

@@ -78,7 +78,11 @@ pub(crate) fn second_part<T: Theories>(
 }
 
 /// A type under one more variable.
-fn lift_type<T: Theories>(theories: &mut T, _theory: Name, id: Id) -> Result<Id, TypeFault>
+pub(crate) fn lift_type<T: Theories>(
+    theories: &mut T,
+    _theory: Name,
+    id: Id,
+) -> Result<Id, TypeFault>
     requires theory { IsName (T.stored theories.old) _theory }
     requires id { IsKnown (T.stored theories.old) (T.declares theories.old _theory) OfType id }
     ensures ok { IfOk result (Gives (T.stored theories.new) (T.declares theories.new _theory) OfType (lift_one (tree_at (T.stored theories.old) id))) }
@@ -121,7 +125,7 @@ pub(crate) fn new_variable<T: Theories>(theories: &mut T, _theory: Name) -> Resu
 }
 
 /// A type with a term substituted for its index 0.
-fn substitute<T: Theories>(
+pub(crate) fn substitute<T: Theories>(
     theories: &mut T,
     _theory: Name,
     body: Id,

@@ -5,7 +5,7 @@ use pvs_terms::{Id, MakeFault, Name, Node, RefId, Store};
 
 /// The theories that stand, over one store: what their references are, in the terms of a theory.
 pub trait Theories {
-    ghost use Rattle.std.specs.Prelude.{◌≡◌, ℕ, IfOk, Ok, Err};
+    ghost use Rattle.std.specs.Prelude.{◌≡◌, ℕ, true, IfOk, Ok, Err};
     ghost use Rattle.pvs_base.specs.declared.code.Code.TheVariants as code;
     ghost use Rattle.pvs_terms.specs.Tree.{Ref, IsWithinLimits};
     ghost use Rattle.pvs_terms.specs.Stored.{Stored, IsNode, IsName, IsRef, tree_at, ref_at, node_tree, PartsIn, Stands};
@@ -76,4 +76,10 @@ pub trait Theories {
         ensures known { IfOk result (IsOptionKnown (stored self.new) (declares self.new theory)) }
         ensures large { result ≡ Err SubstFault.TooLarge → body (lookups self.old theory) (ref_at (stored self.old) r) ≡ Err code.TooLarge }
         ensures kept { Keeps (stored self.old) (declares self.old theory) (lookups self.old theory) (stored self.new) (declares self.new theory) (lookups self.new theory) };
+
+    /// A type's name that is declared in the terms of a theory is a type there. The call does nothing:
+    /// its contract states it.
+    fn declared_types(&self, theory: Name)
+        requires { IsName (stored self.now) theory }
+        ensures { (r : Ref) → declares self.now theory OfType r → (lookups self.now theory).is_type r ≡ true };
 }

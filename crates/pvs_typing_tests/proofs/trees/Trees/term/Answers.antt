@@ -1,0 +1,31 @@
+use Rattle.std.proofs.Common.{◌≡◌, true, is_ok, cond, sym, subst, ◌∙◌, rules, get_or}
+use Rattle.std.proofs.lemmas.List.{get_or_read}
+use Rattle.pvs_terms.specs.Stored.{node_tree}
+use Rattle.pvs_terms.specs.declared.shape.Sort.TheVariants.{OfType, OfTerm}
+use Rattle.pvs_typing_tests.specs.Example.{AllOf, IsMakeable, IsOf}
+use Rattle.pvs_typing_tests.proofs.ExampleLaws.{all_of_kept, all_of-after, known_of, made_of}
+use Rattle.pvs_typing_tests.proofs.trees.Trees.term.Goals as goal
+
+pub invariant_of-self : goal.invariant_of-self
+invariant_of-self c =
+    let me = c.args.self.now in
+    let k = (c.make.ensures.kept me.theory me.named).stored in
+    let u = c.make.new.self.store in
+    record {
+      named = k.names me.theory me.named;
+      types_known = all_of_kept me.example.store u OfType me.types.items k me.types_known;
+      terms_known = all_of_kept me.example.store u OfTerm me.terms.items k me.terms_known;
+    }
+
+pub invariant_of-self-2 : goal.invariant_of-self-2
+invariant_of-self-2 c =
+    let me = c.args.self.now in
+    let k = (c.make.ensures.kept me.theory me.named).stored in
+    let u = c.make.new.self.store in
+    let makes : IsMakeable me.example.store OfTerm c.args.node = c.makes_term.ensures (search rules) in
+    let made = made_of u (node_tree me.example.store c.args.node) OfTerm c.in_ok-made.made c.in_ok-made.ensures.ok makes.sort in
+    record {
+      named = k.names me.theory me.named;
+      types_known = all_of_kept me.example.store u OfType me.types.items k me.types_known;
+      terms_known = subst (AllOf u OfTerm) (sym c.push.ensures.items) (all_of-after u OfTerm me.terms.items c.in_ok-made.made (is_ok c.push.result) (all_of_kept me.example.store u OfTerm me.terms.items k me.terms_known) made);
+    }

@@ -1,0 +1,43 @@
+-- Theories for tests: each constant has one type, one type's name has a body, and all names are declared.
+use Rattle.std.specs.Prelude.{◌≡◌, ℕ, Bool, true, false, if◌then◌else◌, Option, Some, None, List, ◌<◌, length, slice_index}
+use Rattle.pvs_terms.specs.Tree.{Tree, Ref, TBool, TSub, ref_eq}
+use Rattle.pvs_terms.specs.Sorts.{IsType, HasSorts, sort_of}
+use Rattle.pvs_terms.specs.declared.node.Node.{Node}
+use Rattle.pvs_terms.specs.declared.shape.Sort.{Sort}
+use Rattle.pvs_terms.specs.Stored.{Stored, IsName, IsNode, IsRef, PartsIn, node_tree, tree_at, ref_at}
+use Rattle.pvs_sig.specs.Lookups.{Lookups, type_size}
+
+abbrev pub example_lookups : Stored → ℕ → ℕ → ℕ → Lookups
+example_lookups s a d b = record {
+  type_of = λ r. Some (tree_at s a);
+  body_of = λ r. if ref_eq r (ref_at s d) then Some (tree_at s b) else None;
+  is_type = λ r. true;
+  is_nonempty = λ r. false;
+  rank = λ r. 2;
+}
+
+abbrev pub IsDeclared : Sort → Ref → Type 0
+IsDeclared o r = Unit {0}
+
+-- the type of constants, and a defined name whose body is a subtype of the truth values
+pub record IsExample (s : Stored) (a d b : ℕ) : Type 0 where
+  pub node : IsNode s a
+  pub sort : IsType (tree_at s a)
+  pub defined : IsRef s d
+  pub body : IsNode s b
+  pub body_sort : IsType (tree_at s b)
+  pub small : type_size (λ r. 2) (tree_at s b) ≡ 2
+
+-- a number of a tree of this sort
+pub record IsOf (s : Stored) (o : Sort) (i : ℕ) : Type 0 where
+  pub node : IsNode s i
+  pub sort : sort_of (tree_at s i) ≡ o
+
+abbrev pub AllOf : Stored → Sort → List ℕ → Type 0
+AllOf s o is = (k : ℕ) → k < length is → IsOf s o (slice_index is k)
+
+-- a node that can be made, of this sort
+pub record IsMakeable (s : Stored) (o : Sort) (n : Node) : Type 0 where
+  pub parts : PartsIn s n
+  pub sorted : HasSorts (node_tree s n)
+  pub sort : sort_of (node_tree s n) ≡ o

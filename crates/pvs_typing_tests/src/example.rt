@@ -1,0 +1,83 @@
+//! Theories for tests.
+
+ghost use Rattle.std.specs.Prelude.{◌≡◌};
+ghost use Rattle.pvs_terms.specs.Sorts.{IsType};
+ghost use Rattle.pvs_terms.specs.Stored.{IsNode, tree_at};
+ghost use Rattle.pvs_typing_tests.specs.Example.{example_lookups, IsDeclared, IsExample};
+
+use pvs_subst::{SubstFault, lift, put_in};
+use pvs_terms::{Id, MakeFault, Name, Node, RefId, Store};
+use pvs_typing::Theories;
+
+/// Theories in which each constant has the same type, and one type's name has a body, a subtype of
+/// the truth values.
+#[derive(Drop)]
+pub struct Example {
+    store: Store,
+    constant_type: Id,
+    defined: RefId,
+    body: Id,
+    ghost sound: { IsExample store constant_type defined body },
+}
+
+impl Example {
+    pub(crate) fn over(store: Store, constant_type: Id, defined: RefId, body: Id) -> Example
+        requires { IsExample store constant_type defined body }
+        ensures { result.store ≡ store }
+    {
+        Example {
+            store,
+            constant_type,
+            defined,
+            body,
+        }
+    }
+
+    /// The name of the defined type, which is the type of the constants.
+    pub(crate) fn defined_type(&self) -> Id
+        ensures node { IsNode self.now.store result }
+        ensures sort { IsType (tree_at self.now.store result) }
+    {
+        self.constant_type
+    }
+}
+
+impl Theories for Example {
+    ghost stored = { λ e. e.store };
+
+    ghost lookups = { λ e n. example_lookups e.store e.constant_type e.defined e.body };
+
+    ghost declares = { λ e n. IsDeclared };
+
+    fn store(&self) -> &Store {
+        &self.store
+    }
+
+    fn make(&mut self, node: Node) -> Result<Id, MakeFault> {
+        self.store.make(node)
+    }
+
+    fn lift(&mut self, id: Id, by: u32, from: u32) -> Result<Id, SubstFault> {
+        lift(&mut self.store, id, by, from)
+    }
+
+    fn put_in(&mut self, body: Id, arg: Id) -> Result<Id, SubstFault> {
+        put_in(&mut self.store, body, arg)
+    }
+
+    fn type_of(&mut self, _theory: Name, _r: RefId) -> Result<Id, SubstFault> {
+        let _node = self.store.view(self.constant_type);
+        Ok(self.constant_type)
+    }
+
+    fn body_of(&mut self, _theory: Name, r: RefId) -> Result<Option<Id>, SubstFault> {
+        let _node = self.store.view(self.body);
+        if self.store.same_reference(r, self.defined) {
+            Ok(Some(self.body))
+        } else {
+            Ok(None)
+        }
+    }
+
+    fn declared_types(&self, _theory: Name) {}
+}
