@@ -1,5 +1,5 @@
 -- The most general form by steps into a type and out of the types around it.
-use Rattle.std.proofs.Common.{◌≡◌, ℕ, suc, ◌+◌, ◌<◌, ◌≤◌, Bool, true, false, cond, List, [], ◌∷◌, ◌++◌, Option, Some, None, Result, Ok, Err, refl, ap, ap₂, ◌∙◌, sym, subst, arith}
+use Rattle.std.proofs.Common.{◌≡◌, ℕ, ◌+◌, ◌<◌, ◌≤◌, true, false, cond, List, [], ◌∷◌, ◌++◌, Option, Some, None, Result, Ok, Err, refl, ap, ap₂, ◌∙◌, sym, subst, arith}
 use Rattle.pvs_base.specs.Answers.{◌>>=◌}
 use Rattle.pvs_base.specs.declared.code.Code.{Code}
 use Rattle.pvs_base.specs.declared.code.Code.TheVariants.{TooLarge}
@@ -7,11 +7,10 @@ use Rattle.pvs_terms.specs.Tree.{Tree, Ref, TFun, TPair, IsWithinLimits}
 use Rattle.pvs_terms.specs.declared.node.Node.{Node}
 use Rattle.pvs_terms.specs.declared.node.Node.TheVariants as node
 use Rattle.pvs_terms.specs.declared.shape.Sort.{Sort}
-use Rattle.pvs_terms.specs.declared.shape.Sort.TheVariants.{OfType, OfTerm}
+use Rattle.pvs_terms.specs.declared.shape.Sort.TheVariants.{OfType}
 use Rattle.pvs_terms.specs.Stored.{Stored, tree_at, node_tree}
-use Rattle.pvs_sig.specs.Lookups.{Lookups, type_size, IsOrdered}
-use Rattle.pvs_types.specs.Limits.{is_within_limits}
-use Rattle.pvs_types.specs.Forms.{by_body, mentions, most_by, most_pair, most, small_tree}
+use Rattle.pvs_sig.specs.Lookups.{Lookups, IsOrdered}
+use Rattle.pvs_types.specs.Forms.{by_body, mentions, most_by, most, small_tree}
 use Rattle.pvs_types.proofs.FormsLaws.{most_step}
 use Rattle.pvs_types.proofs.LimitsLaws.{limits_decided}
 use Rattle.pvs_typing.specs.declared.fault.TypeFault.{TypeFault}
@@ -22,8 +21,8 @@ use Rattle.pvs_typing.specs.declared.general.Inside.{Inside}
 use Rattle.pvs_typing.specs.Above.{next_above}
 use Rattle.pvs_typing.specs.Growth.{IsKnown, Keeps}
 use Rattle.pvs_typing.specs.Answers.{Gives, IsRefusal, IsOptionKnown, tree_option}
-use Rattle.pvs_typing.specs.code.Frames.{Around, AreKnownFrames, Enters, IsKnownFrame, IsKnownStep, down_work, frame_result, frame_work, frames_after, frames_result, frames_work, step_result, step_work}
-use Rattle.pvs_typing.proofs.GrowthLaws.{keeps_trans, known_kept}
+use Rattle.pvs_typing.specs.code.Frames.{Around, AreKnownFrames, Enters, IsKnownFrame, down_work, frame_result, frame_work, frames_after, frames_result, frames_work}
+use Rattle.pvs_typing.proofs.GrowthLaws.{known_kept}
 use Rattle.pvs_typing.proofs.FormsOver.{next_smaller}
 use Rattle.pvs_typing.proofs.TaskLaws.{size_positive}
 

@@ -1,6 +1,6 @@
 -- The parts of a known node are known, and equal numbers stand for equal trees.
-use Rattle.std.proofs.Common.{◌≡◌, ℕ, ◌<◌, Bool, true, length, refl, ap, sym, subst, arith}
-use Rattle.pvs_terms.specs.Tree.{Tree, Ref, tree_eq}
+use Rattle.std.proofs.Common.{◌≡◌, ℕ, ◌<◌, Bool, true, length, ap, subst, arith}
+use Rattle.pvs_terms.specs.Tree.{Ref, tree_eq}
 use Rattle.pvs_terms.specs.declared.node.Node.{Node}
 use Rattle.pvs_terms.specs.declared.node.Node.TheVariants as node
 use Rattle.pvs_terms.specs.declared.shape.Sort.{Sort}

@@ -1,5 +1,5 @@
 -- What is owed by outcomes in turn, and where the store grows.
-use Rattle.std.proofs.Common.{◌≡◌, ℕ, List, [], ◌∷◌, ◌++◌, append_assoc, refl, ap, ap₂, ◌∙◌, sym}
+use Rattle.std.proofs.Common.{◌≡◌, List, [], ◌∷◌, ◌++◌, append_assoc, refl, ap, ap₂, ◌∙◌, sym}
 use Rattle.pvs_base.specs.declared.code.Code.{Code}
 use Rattle.pvs_terms.specs.Tree.{Ref}
 use Rattle.pvs_terms.specs.declared.shape.Sort.{Sort}
@@ -9,7 +9,7 @@ use Rattle.pvs_subst.specs.declared.context.Assumed.{Assumed}
 use Rattle.pvs_subst.specs.declared.context.Assumed.TheVariants as assumed
 use Rattle.pvs_subst.specs.declared.context.Condition.{Condition}
 use Rattle.pvs_sig.specs.Lookups.{Lookups}
-use Rattle.pvs_types.specs.Outcome.{Conditions, Outcome, Refused, Accepted, outcome_after, ◌>>=◌, pure, owe}
+use Rattle.pvs_types.specs.Outcome.{Conditions, Outcome, Refused, Accepted, outcome_after, ◌>>=◌, pure}
 use Rattle.pvs_typing.specs.declared.fault.TypeFault.{TypeFault}
 use Rattle.pvs_typing.specs.declared.fault.TypeFault.TheVariants as fault
 use Rattle.pvs_typing.specs.Answers.{IsFault}

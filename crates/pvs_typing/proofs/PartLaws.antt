@@ -1,12 +1,11 @@
 -- Trees that are made: that they are known, and when they pass a limit.
-use Rattle.std.proofs.Common.{◌≡◌, ℕ, ◌≤◌, ◌<◌, max, List, [], ◌∷◌, Bool, true, false, cond, refl, ap, ◌∙◌, sym, subst, Result, Err, arith}
-use Rattle.std.specs.Prelude.{◌↔◌}
+use Rattle.std.proofs.Common.{◌≡◌, ℕ, Bool, true, false, cond, refl, ap, ◌∙◌, sym, subst, Result, Err, arith}
 use Rattle.pvs_base.specs.declared.code.Code.TheVariants.{TooLarge}
-use Rattle.pvs_terms.specs.Tree.{Tree, Leaf, Var, Name, Bind, Join, Project, If, Ref, App, Fst, Snd, depth, size, top_index, IsWithinLimits}
+use Rattle.pvs_terms.specs.Tree.{Tree, Var, Ref, App, Fst, Snd, IsWithinLimits}
 use Rattle.pvs_terms.specs.declared.shape.Sort.{Sort}
-use Rattle.pvs_terms.specs.declared.shape.Sort.TheVariants.{OfType, OfTerm}
+use Rattle.pvs_terms.specs.declared.shape.Sort.TheVariants.{OfTerm}
 use Rattle.pvs_terms.specs.Sorts.{sort_of, IsTerm}
-use Rattle.pvs_terms.specs.Stored.{Stored, IsNode, tree_at, node_tree, Stands}
+use Rattle.pvs_terms.specs.Stored.{Stored, tree_at, node_tree, Stands}
 use Rattle.pvs_terms.specs.declared.node.Node.{Node}
 use Rattle.pvs_terms.specs.declared.node.Node.TheVariants as node
 use Rattle.pvs_subst.specs.Replace.{lift, put_in}

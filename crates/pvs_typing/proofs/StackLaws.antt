@@ -1,5 +1,5 @@
 -- Tasks that are left, and the conditions that are owed so far.
-use Rattle.std.proofs.Common.{◌≡◌, ℕ, suc, ◌+◌, ◌<◌, List, [], ◌∷◌, ◌++◌, refl, ap, ap₂, ◌∙◌, sym, subst, arith}
+use Rattle.std.proofs.Common.{◌≡◌, ℕ, ◌+◌, ◌<◌, List, [], ◌∷◌, ◌++◌, refl, ap, ap₂, ◌∙◌, sym, subst, arith}
 use Rattle.pvs_base.specs.declared.code.Code.{Code}
 use Rattle.pvs_terms.specs.Tree.{Ref}
 use Rattle.pvs_terms.specs.declared.shape.Sort.{Sort}
@@ -8,7 +8,7 @@ use Rattle.pvs_subst.specs.Contexts.{context_at}
 use Rattle.pvs_subst.specs.declared.context.Condition.{Condition}
 use Rattle.pvs_subst.specs.declared.context.Context.{Context}
 use Rattle.pvs_sig.specs.Lookups.{Lookups}
-use Rattle.pvs_types.specs.Outcome.{Conditions, Outcome, Refused, Accepted, outcome_after, ◌>>=◌, ◌>>◌, pure}
+use Rattle.pvs_types.specs.Outcome.{Conditions, Outcome, Refused, Accepted, outcome_after, ◌>>◌, pure}
 use Rattle.pvs_types.specs.Coerce.{coerce}
 use Rattle.pvs_types.specs.Uses.{Uses}
 use Rattle.pvs_typing.specs.declared.fault.TypeFault.{TypeFault}

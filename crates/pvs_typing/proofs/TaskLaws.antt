@@ -1,10 +1,9 @@
 -- Tasks where the store grows, the work that they are, and the steps of coercion.
-use Rattle.std.proofs.Common.{◌≡◌, ℕ, zero, suc, ◌+◌, ◌<◌, ◌≤◌, Bool, true, false, cond, eqb, List, [], ◌∷◌, ◌++◌, append_assoc, eq-eqb, Option, Some, None, Result, Ok, Err, refl, ap, ap₂, ◌∙◌, sym, subst, arith}
-use Rattle.std.specs.Prelude.{IfOk}
+use Rattle.std.proofs.Common.{◌≡◌, ℕ, zero, suc, ◌+◌, ◌<◌, ◌≤◌, Bool, true, false, cond, List, [], ◌∷◌, eq-eqb, Option, Some, None, Result, Ok, Err, refl, ap, ap₂, ◌∙◌, sym, subst, arith}
 use Rattle.std.proofs.lemmas.Result.{IfOk-at_ok}
 use Rattle.pvs_base.specs.Answers as answers
 use Rattle.pvs_base.specs.declared.code.Code.{Code}
-use Rattle.pvs_base.specs.declared.code.Code.TheVariants.{Mismatch, TooLarge}
+use Rattle.pvs_base.specs.declared.code.Code.TheVariants.{Mismatch}
 use Rattle.pvs_terms.specs.Tree.{Tree, Leaf, Var, Name, Bind, Join, Project, If, Ref, TName, TSub, TFun, TPair, tree_eq, IsWithinLimits}
 use Rattle.pvs_terms.specs.declared.shape.Sort.{Sort}
 use Rattle.pvs_terms.specs.declared.shape.Sort.TheVariants.{OfType, OfTerm}
@@ -16,13 +15,11 @@ use Rattle.pvs_terms.specs.Stored.{Stored, tree_at, node_tree, Stands}
 use Rattle.pvs_subst.specs.Replace.{put_in}
 use Rattle.pvs_subst.specs.Contexts.{Assumptions, Variable, context_at}
 use Rattle.pvs_subst.specs.declared.context.Assumed.TheVariants as assumed
-use Rattle.pvs_subst.specs.declared.context.Condition.{Condition}
 use Rattle.pvs_subst.specs.declared.context.Context.{Context}
 use Rattle.pvs_sig.specs.Lookups.{Lookups, type_size, IsOrdered}
-use Rattle.pvs_types.specs.ProperTerms.{IsProperTerm}
 use Rattle.pvs_types.specs.Outcome.{Outcome, Refused, Accepted, outcome_after, ◌>>=◌, ◌>>◌, pure, refuse, owe, from_result, within_limits}
 use Rattle.pvs_types.specs.Forms.{body, by_body, head, up, is_among}
-use Rattle.pvs_types.specs.Coerce.{lift_one, application, first_part, second_part, same_type, coerce_parts, coerce_pair, coerce_domains, coerce_function, coerce_to, coerce_by, coerce}
+use Rattle.pvs_types.specs.Coerce.{lift_one, application, first_part, second_part, coerce_parts, coerce_pair, coerce_function, coerce_to, coerce}
 use Rattle.pvs_types.proofs.ProperTermLaws.{sorted_is_proper}
 use Rattle.pvs_types.proofs.SizeLaws.{type_size-lift, type_size-put_in}
 use Rattle.pvs_types.proofs.FormsLaws.{body_is, head_size}
@@ -36,8 +33,7 @@ use Rattle.pvs_typing.specs.declared.tasks.Next.TheVariants.{Done, Owe, One, Two
 use Rattle.pvs_typing.specs.Above.{is_above}
 use Rattle.pvs_typing.specs.Growth.{IsKnown, IsKnownContext, Keeps}
 use Rattle.pvs_typing.specs.Answers.{IsFault, IsRefusal, Gives, tree_option}
-use Rattle.pvs_typing.specs.Owed.{condition_at, conditions_at, IsKnownCondition, AreKnownConditions}
-use Rattle.pvs_typing.specs.code.Tasks.{both, both_within, head_outcome, satisfy_outcome, second_outcome, apply_outcome, task_outcome, stack_outcome, next_outcome, IsKnownCoercion, IsKnownTask, AreKnownTasks, IsKnownNext, steps_bound, coercion_work, task_work, stack_work, next_work, Follows, tasks_after, conditions_after}
+use Rattle.pvs_typing.specs.code.Tasks.{both, both_within, head_outcome, satisfy_outcome, second_outcome, apply_outcome, task_outcome, stack_outcome, IsKnownCoercion, IsKnownTask, AreKnownTasks, steps_bound, coercion_work, task_work, stack_work, Follows}
 use Rattle.pvs_typing.proofs.GrowthLaws.{keeps_trans, known_kept, context_kept}
 use Rattle.pvs_typing.proofs.PartLaws.{fits_within, gives_kept, put_gives}
 use Rattle.pvs_typing.proofs.OwedLaws.{after_none, after_then, accepted_then, context_same}

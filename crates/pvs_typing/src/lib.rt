@@ -1,4 +1,4 @@
-//! Typing of core trees by number: the forms of types.
+//! Typing of core trees by number: the forms of types, and coercion between types.
 #![tactic(auto)]
 
 mod coercion;

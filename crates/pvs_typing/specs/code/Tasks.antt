@@ -11,7 +11,7 @@ use Rattle.pvs_subst.specs.declared.context.Context.{Context}
 use Rattle.pvs_sig.specs.Lookups.{Lookups, type_size}
 use Rattle.pvs_types.specs.Outcome.{Outcome, Accepted, outcome_after, ◌>>=◌, ◌>>◌, pure, owe, from_result, within_limits}
 use Rattle.pvs_types.specs.Forms.{head}
-use Rattle.pvs_types.specs.Coerce.{lift_one, application, second_part, same_type, coerce}
+use Rattle.pvs_types.specs.Coerce.{application, second_part, same_type, coerce}
 use Rattle.pvs_typing.specs.Growth.{IsKnown, IsKnownContext}
 use Rattle.pvs_typing.specs.Owed.{condition_at, conditions_at, IsKnownCondition, AreKnownConditions}
 use Rattle.pvs_typing.specs.declared.tasks.Task.{Task}

@@ -1,9 +1,7 @@
 use Rattle.std.proofs.lemmas.Result.{err_from_is_err_and}
-use Rattle.std.proofs.Common.{Some, None}
-use Rattle.pvs_terms.specs.Stored.{tree_at}
-use Rattle.pvs_typing.specs.code.Frames.{Enters}
+use Rattle.std.proofs.Common.{Some}
 use Rattle.pvs_typing.proofs.GrowthLaws.{keeps_trans}
-use Rattle.pvs_typing.proofs.GeneralLaws.{descent_goes_on, descent_less, descent_ends, descent_fault, enters_at}
+use Rattle.pvs_typing.proofs.GeneralLaws.{descent_goes_on, descent_ends, descent_fault, enters_at}
 use Rattle.pvs_typing.proofs.general.descend.Goals as goal
 
 pub returns-in_err-inside-clause-refused : goal.returns-in_err-inside-clause-refused

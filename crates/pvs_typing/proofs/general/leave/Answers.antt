@@ -2,9 +2,9 @@ use Rattle.std.proofs.Common.{sym, ◌∙◌, subst, Ok}
 use Rattle.std.proofs.lemmas.Result.{err_from_is_err_and}
 use Rattle.pvs_terms.specs.Tree.{TFun, TPair}
 use Rattle.pvs_terms.specs.Stored.{tree_at}
-use Rattle.pvs_types.specs.Forms.{small_tree, most}
+use Rattle.pvs_types.specs.Forms.{small_tree}
 use Rattle.pvs_typing.specs.declared.general.Frame.TheVariants.{Range, Others, First}
-use Rattle.pvs_typing.specs.code.Frames.{IsKnownFrame, frame_result, frames_result, frames_work, frame_work}
+use Rattle.pvs_typing.specs.code.Frames.{IsKnownFrame, frame_result, frames_work}
 use Rattle.pvs_typing.proofs.GeneralLaws.{first_known, first_less, first_same, frame_at, frame_made, leave_fault, leave_less, mentioned_made}
 use Rattle.pvs_typing.proofs.general.leave.Goals as goal
 

@@ -1,4 +1,3 @@
-use Rattle.std.proofs.Common.{length}
 use Rattle.pvs_typing.proofs.NodeLaws.{known_parts_at}
 use Rattle.pvs_typing.proofs.nodes.known_node.Goals as goal
 

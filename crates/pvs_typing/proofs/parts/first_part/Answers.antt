@@ -1,4 +1,4 @@
-use Rattle.std.proofs.Common.{ap, sym, subst, ◌∙◌, refl}
+use Rattle.std.proofs.Common.{sym, refl}
 use Rattle.pvs_terms.specs.Tree.{Fst}
 use Rattle.pvs_terms.specs.declared.shape.Sort.TheVariants.{OfTerm}
 use Rattle.pvs_terms.specs.Stored.{tree_at}

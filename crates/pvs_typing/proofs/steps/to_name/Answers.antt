@@ -2,7 +2,7 @@ use Rattle.std.proofs.Common.{ap, Ok, ◌∙◌}
 use Rattle.pvs_terms.specs.declared.shape.Sort.TheVariants.{OfType}
 use Rattle.pvs_terms.specs.Stored.{tree_at, ref_at}
 use Rattle.pvs_subst.specs.Contexts.{context_at}
-use Rattle.pvs_typing.specs.Answers.{IsOptionKnown, tree_option}
+use Rattle.pvs_typing.specs.Answers.{tree_option}
 use Rattle.pvs_typing.proofs.GrowthLaws.{keeps_trans, known_kept}
 use Rattle.pvs_typing.proofs.TaskLaws.{name_done, name_follows}
 use Rattle.pvs_typing.proofs.steps.to_name.Goals as goal
