@@ -1,12 +1,11 @@
 -- The theories for tests stay what they are where the store grows.
-use Rattle.std.proofs.Common.{◌<◌, arith, zero, suc, List, [], ◌∷◌, ◌++◌, length, get_or, ◌≡◌, ℕ, Bool, true, false, cond, Option, Some, None, Result, Ok, Err, refl, ap, ◌∙◌, sym, subst}
-use Rattle.pvs_terms.specs.Tree.{Tree, Leaf, Var, Name, Bind, Join, Project, If, Ref, IsWithinLimits, TBool, TSub, ref_eq}
+use Rattle.std.proofs.Common.{◌<◌, arith, zero, suc, List, [], ◌∷◌, ◌++◌, get_or, ◌≡◌, ℕ, Bool, true, false, cond, Some, None, Ok, refl, ap, ◌∙◌, sym, subst}
+use Rattle.pvs_terms.specs.Tree.{Tree, Leaf, Var, Name, Bind, Join, Project, If, Ref, IsWithinLimits, ref_eq}
 use Rattle.pvs_terms.specs.Sorts.{IsType, sort_of}
 use Rattle.pvs_terms.specs.declared.shape.Sort.{Sort}
-use Rattle.pvs_terms.specs.Stored.{Stored, IsNode, IsRef, tree_at, ref_at, Extends, Stands}
-use Rattle.pvs_sig.specs.Lookups.{Lookups, type_size, IsOrdered}
-use Rattle.pvs_types.specs.Limits.{is_within_limits}
-use Rattle.pvs_types.specs.Forms.{body, small_body}
+use Rattle.pvs_terms.specs.Stored.{Stored, tree_at, ref_at, Extends, Stands}
+use Rattle.pvs_sig.specs.Lookups.{type_size, IsOrdered}
+use Rattle.pvs_types.specs.Forms.{body}
 use Rattle.pvs_types.proofs.LimitsLaws.{limits_decided}
 use Rattle.pvs_typing.specs.Growth.{EachName, IsKnown, Keeps}
 use Rattle.pvs_typing_tests.specs.Example.{AllOf, example_lookups, IsDeclared, IsExample, IsOf}

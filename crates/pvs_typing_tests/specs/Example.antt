@@ -1,10 +1,10 @@
 -- Theories for tests: each constant has one type, one type's name has a body, and all names are declared.
-use Rattle.std.specs.Prelude.{◌≡◌, ℕ, Bool, true, false, if◌then◌else◌, Option, Some, None, List, ◌<◌, length, slice_index}
-use Rattle.pvs_terms.specs.Tree.{Tree, Ref, TBool, TSub, ref_eq}
+use Rattle.std.specs.Prelude.{◌≡◌, ℕ, true, false, if◌then◌else◌, Some, None, List, ◌<◌, length, slice_index}
+use Rattle.pvs_terms.specs.Tree.{Ref, ref_eq}
 use Rattle.pvs_terms.specs.Sorts.{IsType, HasSorts, sort_of}
 use Rattle.pvs_terms.specs.declared.node.Node.{Node}
 use Rattle.pvs_terms.specs.declared.shape.Sort.{Sort}
-use Rattle.pvs_terms.specs.Stored.{Stored, IsName, IsNode, IsRef, PartsIn, node_tree, tree_at, ref_at}
+use Rattle.pvs_terms.specs.Stored.{Stored, IsNode, IsRef, PartsIn, node_tree, tree_at, ref_at}
 use Rattle.pvs_sig.specs.Lookups.{Lookups, type_size}
 
 abbrev pub example_lookups : Stored → ℕ → ℕ → ℕ → Lookups

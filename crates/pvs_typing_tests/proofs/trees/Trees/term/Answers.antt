@@ -1,9 +1,8 @@
-use Rattle.std.proofs.Common.{◌≡◌, true, is_ok, cond, sym, subst, ◌∙◌, rules, get_or}
-use Rattle.std.proofs.lemmas.List.{get_or_read}
+use Rattle.std.proofs.Common.{is_ok, sym, subst, rules}
 use Rattle.pvs_terms.specs.Stored.{node_tree}
 use Rattle.pvs_terms.specs.declared.shape.Sort.TheVariants.{OfType, OfTerm}
-use Rattle.pvs_typing_tests.specs.Example.{AllOf, IsMakeable, IsOf}
-use Rattle.pvs_typing_tests.proofs.ExampleLaws.{all_of_kept, all_of-after, known_of, made_of}
+use Rattle.pvs_typing_tests.specs.Example.{AllOf, IsMakeable}
+use Rattle.pvs_typing_tests.proofs.ExampleLaws.{all_of_kept, all_of-after, made_of}
 use Rattle.pvs_typing_tests.proofs.trees.Trees.term.Goals as goal
 
 pub invariant_of-self : goal.invariant_of-self
