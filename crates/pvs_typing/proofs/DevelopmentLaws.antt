@@ -19,7 +19,7 @@ use Rattle.pvs_types.specs.Limits.{is_within_limits}
 use Rattle.pvs_types.proofs.LimitsLaws.{limits_decided}
 use Rattle.pvs_instantiate.specs.InstancesView.{InstancesView, development, Leaves}
 use Rattle.pvs_instantiate.specs.Parts.{IsRefBy, IsRefFrom, IsConstant, GivesTree, GivesOption, PassesLimit, definition, kind_by, kind_from}
-use Rattle.pvs_typing.specs.Growth.{EachName, IsKnown, Keeps}
+use Rattle.pvs_typing.specs.Growth.{EachName, IsKnown}
 use Rattle.pvs_typing.specs.Answers.{IsType, IsTooLarge, IsOptionKnown, tree_option}
 use Rattle.pvs_typing.specs.Development.{lookups_by, lookups_from, IsDeclaredBy, IsDeclaredFrom}
 
@@ -160,17 +160,6 @@ module _ (d : Development) (standing : IsDevelopment d) (th : Text) where
 
   pub ordered_from : IsOrdered (lookups_from d th)
   ordered_from = ordered_by (theory_named d th) refl
-
--- what a call leaves, typing keeps
-pub leaves_keeps : (v w : InstancesView) (n : ℕ) → IsName v.store n → Leaves v w
-    → Keeps v.store (IsDeclaredFrom (development v) (text_at v.store n)) (lookups_from (development v) (text_at v.store n)) w.store (IsDeclaredFrom (development w) (text_at w.store n)) (lookups_from (development w) (text_at w.store n))
-leaves_keeps v w n k l =
-    let text = l.store.texts n k in
-    record {
-      stored = l.store;
-      declared = λ o r h. subst (λ d. IsDeclaredFrom d (text_at w.store n) o r) (sym l.development) (subst (λ t. IsDeclaredFrom (development v) t o r) (sym text) h);
-      lookups = ap₂ lookups_from l.development text;
-    }
 
 -- the answers, by what is left
 module _ (v w : InstancesView) (n : ℕ) (r : Ref) (named : IsName v.store n) (leaves : Leaves v w) (standing : IsDevelopment (development v)) where
