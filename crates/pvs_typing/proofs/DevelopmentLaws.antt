@@ -1,15 +1,15 @@
 -- What a development declares and looks up, in the terms of a theory, is what typing needs of it.
-use Rattle.std.proofs.Common.{◌≡◌, ℕ, Bool, true, false, Option, Some, None, Result, Ok, Err, refl, sym, ap, ap₂, ◌∙◌, subst}
+use Rattle.std.proofs.Common.{◌≡◌, ℕ, Bool, true, false, Option, Some, None, Ok, Err, refl, sym, ap, ap₂, ◌∙◌, subst}
 use Rattle.pvs_base.specs.declared.code.Code.TheVariants as code
 use Rattle.pvs_terms.specs.Tree.{Text, Tree, Leaf, Var, Name, Bind, Join, Project, If, Ref, Own, Formal, Inst, Trees, IsWithinLimits}
 use Rattle.pvs_terms.specs.Sorts.{sort_of}
 use Rattle.pvs_terms.specs.declared.shape.Sort.{Sort}
 use Rattle.pvs_terms.specs.declared.shape.Sort.TheVariants.{OfType, OfTerm}
-use Rattle.pvs_terms.specs.Stored.{Stored, Stands, Extends, IsName, IsRef, tree_at, ref_at, text_at}
+use Rattle.pvs_terms.specs.Stored.{Stands, IsName, text_at}
 use Rattle.pvs_sig.specs.Signature.{Signature, Kind, TypeSig, ConstSig, VarSig, FormulaSig, kind_in, instantiate_found}
 use Rattle.pvs_sig.specs.Development.{Development, IsDevelopment, IsDeclared, AreDeclared, HasSort, IsRefOver, IsTreeOver, IsKindOver, theory_named, kind_of}
-use Rattle.pvs_sig.specs.Lookups.{Lookups, IsOrdered}
-use Rattle.pvs_sig.specs.LookupsOf.{lookups_of, kind_lookup, constant_type, is_type_kind}
+use Rattle.pvs_sig.specs.Lookups.{IsOrdered}
+use Rattle.pvs_sig.specs.LookupsOf.{constant_type, is_type_kind}
 use Rattle.pvs_sig.specs.Ranks.{type_body}
 use Rattle.pvs_sig.proofs.AdditionLaws.{is_over_all, kinds_are_over}
 use Rattle.pvs_sig.proofs.DeclaredLaws.{sort_stands}
@@ -18,7 +18,7 @@ use Rattle.pvs_types.specs.Forms.{body, small_body}
 use Rattle.pvs_types.specs.Limits.{is_within_limits}
 use Rattle.pvs_types.proofs.LimitsLaws.{limits_decided}
 use Rattle.pvs_instantiate.specs.InstancesView.{InstancesView, development, Leaves}
-use Rattle.pvs_instantiate.specs.Parts.{IsRefBy, IsRefFrom, IsConstant, GivesTree, GivesOption, PassesLimit, definition, kind_by, kind_from}
+use Rattle.pvs_instantiate.specs.Parts.{IsRefBy, IsRefFrom, GivesTree, GivesOption, PassesLimit, definition, kind_by, kind_from}
 use Rattle.pvs_typing.specs.Growth.{EachName, IsKnown}
 use Rattle.pvs_typing.specs.Answers.{IsType, IsTooLarge, IsOptionKnown, tree_option}
 use Rattle.pvs_typing.specs.Development.{lookups_by, lookups_from, IsDeclaredBy, IsDeclaredFrom}

@@ -1,5 +1,5 @@
 -- What is looked up and what is declared in the terms of a theory of a development, by the theory's name.
-use Rattle.std.specs.Prelude.{ℕ, false, Option, Some, None}
+use Rattle.std.specs.Prelude.{false, Option, Some, None}
 use Rattle.pvs_terms.specs.Tree.{Text, Ref}
 use Rattle.pvs_terms.specs.declared.shape.Sort.{Sort}
 use Rattle.pvs_sig.specs.Signature.{Signature}

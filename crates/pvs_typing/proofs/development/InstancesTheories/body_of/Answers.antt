@@ -1,6 +1,5 @@
 use Rattle.std.proofs.Common.{Err, ap}
-use Rattle.pvs_terms.specs.Stored.{text_at, ref_at}
-use Rattle.pvs_instantiate.specs.InstancesView.{development}
+use Rattle.pvs_terms.specs.Stored.{ref_at}
 use Rattle.pvs_typing.proofs.DevelopmentLaws.{gives_body, body_is_known, body_too_large}
 use Rattle.pvs_typing.proofs.development.InstancesTheories.body_of.Goals as goal
 
