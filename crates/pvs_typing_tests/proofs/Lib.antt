@@ -1,2 +1,2 @@
 pub mod ExampleLaws
-pub mod DeclaredLaws
+pub mod SmallTheoryLaws

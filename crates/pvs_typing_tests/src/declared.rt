@@ -7,7 +7,7 @@ ghost use Rattle.pvs_terms.specs.declared.shape.Sort.TheVariants.{OfTerm};
 ghost use Rattle.pvs_instantiate.specs.InstancesView.{development, Leaves};
 ghost use Rattle.pvs_typing.specs.Growth.{IsKnown};
 ghost use Rattle.pvs_typing.specs.Development.{IsDeclaredFrom};
-ghost use Rattle.pvs_typing_tests.specs.Declared.{AreTrees, IsTheoryOf, theory_of};
+ghost use Rattle.pvs_typing_tests.specs.SmallTheory.{AreTrees, IsTheoryOf, theory_of};
 
 use pvs_cache::NoCache;
 use pvs_instantiate::Instances;
