@@ -102,8 +102,9 @@ fn begin(instances: &mut Instances<NoCache>) -> Result<(Name, Id), Fail>
 {
     let theory = instances.name("theory")?;
     let trees = make_trees(instances)?;
+    let constant = trees.constant;
     add(instances, theory, trees)?;
-    Ok((theory, trees.constant))
+    Ok((theory, constant))
 }
 
 /// The head of the type of a constant.
