@@ -10,3 +10,4 @@ pub mod SymbolLaws
 pub mod StackLaws
 pub mod MentionLaws
 pub mod GeneralLaws
+pub mod DevelopmentLaws

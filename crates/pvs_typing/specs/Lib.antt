@@ -1,4 +1,5 @@
 pub mod Growth
+pub mod Development
 pub mod Answers
 pub mod Above
 pub mod Judging

@@ -3,6 +3,7 @@
 
 mod coercion;
 mod contexts;
+mod development;
 mod fault;
 mod forms;
 mod general;
@@ -19,6 +20,7 @@ mod theories;
 mod typing;
 
 pub use coercion::coerce;
+pub use development::development_laws;
 pub use fault::TypeFault;
 pub use forms::{head, up};
 pub use general::most;
