@@ -135,10 +135,13 @@ fn is_boolean(instances: &mut Instances<NoCache>) -> Result<bool, Fail>
     Ok(form == boolean)
 }
 
+fn holds(alloc: Global) -> Result<bool, Fail> {
+    let mut instances = Instances::new(alloc, NoCache)?;
+    is_boolean(&mut instances)
+}
+
 #[test]
 fn a_constant_has_the_type_of_its_declaration(rt: HostRuntime) -> Result<(), Fail> {
-    let mut instances = Instances::new(rt.alloc(), NoCache)?;
-    let holds = is_boolean(&mut instances)?;
-    assert!(rt; holds);
+    assert!(rt; holds(rt.alloc())?);
     Ok(())
 }
