@@ -1,12 +1,13 @@
 //! Theories for tests.
 
-ghost use Rattle.std.specs.Prelude.{◌≡◌};
+ghost use Rattle.std.specs.Prelude.{◌≡◌, IfOk};
 ghost use Rattle.pvs_terms.specs.Sorts.{IsType};
-ghost use Rattle.pvs_terms.specs.Stored.{IsNode, tree_at};
-ghost use Rattle.pvs_typing_tests.specs.Example.{example_lookups, IsDeclared, IsExample};
+ghost use Rattle.pvs_terms.specs.Stored.{Extends, IsNode, tree_at};
+ghost use Rattle.pvs_terms.specs.declared.shape.Sort.TheVariants.{OfType, OfTerm};
+ghost use Rattle.pvs_typing_tests.specs.Example.{example_lookups, IsDeclared, IsExample, IsOf};
 
 use pvs_subst::{SubstFault, lift, put_in};
-use pvs_terms::{Id, MakeFault, Name, Node, RefId, Store};
+use pvs_terms::{Id, MakeFault, Name, Node, RefId, RefKind, Store};
 use pvs_typing::Theories;
 
 /// Theories in which each constant has the same type, and one type's name has a body, a subtype of
@@ -39,6 +40,24 @@ impl Example {
         ensures sort { IsType (tree_at self.now.store result) }
     {
         self.constant_type
+    }
+
+    /// The name of the type of this number. The number of the defined type is 0, and no other has a body.
+    pub(crate) fn named_type(&mut self, number: u32) -> Result<Id, MakeFault>
+        ensures ok { IfOk result (IsOf self.new.store OfType) }
+        ensures kept { Extends self.old.store self.new.store }
+    {
+        let r = self.store.reference(RefKind::Own(number), &[])?;
+        self.store.make(Node::TName(r))
+    }
+
+    /// The constant of this number.
+    pub(crate) fn constant(&mut self, number: u32) -> Result<Id, MakeFault>
+        ensures ok { IfOk result (IsOf self.new.store OfTerm) }
+        ensures kept { Extends self.old.store self.new.store }
+    {
+        let r = self.store.reference(RefKind::Own(number), &[])?;
+        self.store.make(Node::Const(r))
     }
 }
 

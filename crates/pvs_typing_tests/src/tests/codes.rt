@@ -1,0 +1,191 @@
+//! The codes with which typing refuses.
+
+use super::{is_refused, owes};
+use crate::trees::Trees;
+use pvs_base::Code;
+use pvs_subst::Assumed;
+use pvs_terms::{Id, Node};
+use pvs_typing::TypeFault;
+use std::process::Abort;
+
+/// A variable that is not bound, in a part of a pair.
+fn refuses_unbound(rt: &impl Abort, trees: &mut Trees) -> Result<(), TypeFault> {
+    let truth = trees.ty(Node::TBool)?;
+    let x = trees.term(Node::Var(0))?;
+    let above = trees.term(Node::Var(1))?;
+    let pair = trees.term(Node::Tup(2, x, above))?;
+    let answer = trees.infer(Assumed::Bind(truth), pair);
+    assert!(rt; is_refused(&answer, Code::Unknown));
+    Ok(())
+}
+
+#[test]
+fn an_unbound_variable_is_unknown(rt: HostRuntime) -> Result<(), TypeFault> {
+    let mut trees = Trees::new(rt.alloc())?;
+    refuses_unbound(&rt, &mut trees)
+}
+
+/// The application of a truth value.
+fn refuses_application(rt: &impl Abort, trees: &mut Trees) -> Result<(), TypeFault> {
+    let defined = trees.defined_type()?;
+    let x = trees.term(Node::Var(0))?;
+    let applied = trees.term(Node::App(x, x))?;
+    let answer = trees.infer(Assumed::Bind(defined), applied);
+    assert!(rt; is_refused(&answer, Code::NotFunction));
+    Ok(())
+}
+
+#[test]
+fn a_truth_value_is_no_function(rt: HostRuntime) -> Result<(), TypeFault> {
+    let mut trees = Trees::new(rt.alloc())?;
+    refuses_application(&rt, &mut trees)
+}
+
+/// A component of a truth value, and a component of a pair as if it were of a triple.
+fn refuses_components(rt: &impl Abort, trees: &mut Trees) -> Result<(), TypeFault> {
+    let defined = trees.defined_type()?;
+    let x = trees.term(Node::Var(0))?;
+    let pair = trees.term(Node::Tup(2, x, x))?;
+    let first = trees.term(Node::Fst(2, x))?;
+    let answer = trees.infer(Assumed::Bind(defined), first);
+    assert!(rt; is_refused(&answer, Code::NotTuple));
+    let second = trees.term(Node::Snd(3, pair))?;
+    let answer = trees.infer(Assumed::Bind(defined), second);
+    assert!(rt; is_refused(&answer, Code::NoSuchPart));
+    Ok(())
+}
+
+#[test]
+fn components_are_those_of_tuples(rt: HostRuntime) -> Result<(), TypeFault> {
+    let mut trees = Trees::new(rt.alloc())?;
+    refuses_components(&rt, &mut trees)
+}
+
+/// A pair in the place of a truth value: as an argument, as a condition and as a predicate.
+fn refuses_other_types(rt: &impl Abort, trees: &mut Trees) -> Result<(), TypeFault> {
+    let truth = trees.ty(Node::TBool)?;
+    let x = trees.term(Node::Var(0))?;
+    let pair = trees.term(Node::Tup(2, x, x))?;
+    let identity = trees.term(Node::Lam(truth, x))?;
+    let applied = trees.term(Node::App(identity, pair))?;
+    let answer = trees.infer(Assumed::Bind(truth), applied);
+    assert!(rt; is_refused(&answer, Code::Mismatch));
+    let choice = trees.term(Node::If(pair, x, x))?;
+    let answer = trees.infer(Assumed::Bind(truth), choice);
+    assert!(rt; is_refused(&answer, Code::Mismatch));
+    let subtype = trees.ty(Node::TSub(truth, pair))?;
+    let answer = trees.well_formed(Assumed::Bind(truth), subtype);
+    assert!(rt; is_refused(&answer, Code::Mismatch));
+    Ok(())
+}
+
+#[test]
+fn a_pair_is_no_truth_value(rt: HostRuntime) -> Result<(), TypeFault> {
+    let mut trees = Trees::new(rt.alloc())?;
+    refuses_other_types(&rt, &mut trees)
+}
+
+/// A type of functions to functions, and so on, that is 1,000 deep, as deep as a tree may be.
+fn deepest_type(trees: &mut Trees) -> Result<Id, TypeFault> {
+    let truth = trees.ty(Node::TBool)?;
+    let mut ty = truth;
+    for _ in 1..1000 {
+        ty = trees.ty(Node::TFun(truth, ty))?;
+    }
+    Ok(ty)
+}
+
+/// A first component of a first component, and so on, of variable 0, that is so deep.
+fn deep_term(trees: &mut Trees, depth: u32) -> Result<Id, TypeFault> {
+    let mut term = trees.term(Node::Var(0))?;
+    for _ in 1..depth {
+        term = trees.term(Node::Fst(2, term))?;
+    }
+    Ok(term)
+}
+
+/// An abstraction whose body is of the deepest type.
+fn refuses_deep_abstraction(rt: &impl Abort, trees: &mut Trees) -> Result<(), TypeFault> {
+    let truth = trees.ty(Node::TBool)?;
+    let deepest = deepest_type(trees)?;
+    let outer = trees.term(Node::Var(1))?;
+    let constant = trees.term(Node::Lam(truth, outer))?;
+    let answer = trees.infer(Assumed::Bind(deepest), outer);
+    assert!(rt; is_refused(&answer, Code::Unknown));
+    let answer = trees.infer(Assumed::Bind(deepest), constant);
+    assert!(rt; is_refused(&answer, Code::TooLarge));
+    Ok(())
+}
+
+#[test]
+fn the_type_of_an_abstraction_is_too_large(rt: HostRuntime) -> Result<(), TypeFault> {
+    let mut trees = Trees::new(rt.alloc())?;
+    refuses_deep_abstraction(&rt, &mut trees)
+}
+
+/// A coercion of the deepest term between pairs, whose components are no truth values: the first
+/// component is too large before that is seen.
+fn refuses_deep_component(rt: &impl Abort, trees: &mut Trees) -> Result<(), TypeFault> {
+    let truth = trees.ty(Node::TBool)?;
+    let functions = trees.ty(Node::TFun(truth, truth))?;
+    let from = trees.ty(Node::TPair(2, functions, truth))?;
+    let to = trees.ty(Node::TPair(2, truth, truth))?;
+    let deepest = deep_term(trees, 1000)?;
+    let answer = trees.coerce(Assumed::Bind(from), deepest, from, to);
+    assert!(rt; is_refused(&answer, Code::TooLarge));
+    let x = trees.term(Node::Var(0))?;
+    let answer = trees.coerce(Assumed::Bind(from), x, from, to);
+    assert!(rt; is_refused(&answer, Code::Mismatch));
+    Ok(())
+}
+
+#[test]
+fn a_component_is_too_large(rt: HostRuntime) -> Result<(), TypeFault> {
+    let mut trees = Trees::new(rt.alloc())?;
+    refuses_deep_component(&rt, &mut trees)
+}
+
+/// A coercion of the deepest term between functions: the domains mismatch before it is applied, and it
+/// is applied before the ranges mismatch.
+fn refuses_deep_application(rt: &impl Abort, trees: &mut Trees) -> Result<(), TypeFault> {
+    let truth = trees.ty(Node::TBool)?;
+    let functions = trees.ty(Node::TFun(truth, truth))?;
+    let to = trees.ty(Node::TFun(truth, functions))?;
+    let other = trees.ty(Node::TFun(functions, truth))?;
+    let deepest = deep_term(trees, 1000)?;
+    let answer = trees.coerce(Assumed::Bind(functions), deepest, functions, to);
+    assert!(rt; is_refused(&answer, Code::TooLarge));
+    let answer = trees.coerce(Assumed::Bind(functions), deepest, functions, other);
+    assert!(rt; is_refused(&answer, Code::Mismatch));
+    Ok(())
+}
+
+#[test]
+fn an_application_is_too_large(rt: HostRuntime) -> Result<(), TypeFault> {
+    let mut trees = Trees::new(rt.alloc())?;
+    refuses_deep_application(&rt, &mut trees)
+}
+
+/// A coercion to a subtype whose predicate is too large with the term substituted: the supertype
+/// mismatches before.
+fn refuses_deep_predicate(rt: &impl Abort, trees: &mut Trees) -> Result<(), TypeFault> {
+    let truth = trees.ty(Node::TBool)?;
+    let functions = trees.ty(Node::TFun(truth, truth))?;
+    let predicate = deep_term(trees, 999)?;
+    let x = trees.term(Node::Var(0))?;
+    let deeper = deep_term(trees, 3)?;
+    let to = trees.ty(Node::TSub(truth, predicate))?;
+    let answer = trees.coerce(Assumed::Bind(truth), deeper, truth, to);
+    assert!(rt; is_refused(&answer, Code::TooLarge));
+    let answer = trees.coerce(Assumed::Bind(truth), deeper, functions, to);
+    assert!(rt; is_refused(&answer, Code::Mismatch));
+    let answer = trees.coerce(Assumed::Bind(truth), x, truth, to);
+    assert!(rt; owes(&answer, to, &[predicate]));
+    Ok(())
+}
+
+#[test]
+fn a_predicate_is_too_large(rt: HostRuntime) -> Result<(), TypeFault> {
+    let mut trees = Trees::new(rt.alloc())?;
+    refuses_deep_predicate(&rt, &mut trees)
+}
