@@ -33,12 +33,15 @@ fn not_made() -> TypeFault {
     TypeFault::Refused(Code::Unexpected)
 }
 
+/// Whether a number is among these. The latest come first.
 fn is_among(store: &Store, sort: Sort, ids: &[Id], id: Id) -> bool
     requires { AllOf store.now sort ids.now }
     ensures { result ≡ true → IsKnown store.now IsDeclared sort id }
 {
-    for known in ids {
-        if *known == id {
+    let mut left = ids.len();
+    while left > 0 {
+        left -= 1;
+        if ids[left] == id {
             return true;
         }
     }
@@ -106,9 +109,17 @@ impl Trees {
         Ok(ty)
     }
 
-    /// The name of the type of this number. That of the defined type is 0, and no other has a body.
-    pub fn named_type(&mut self, number: u32) -> Result<Id, TypeFault> {
-        let ty = self.example.named_type(number)?;
+    /// The name of the theory's own type of this number. That of the defined type is 0, and each other
+    /// one is defined as the one before it.
+    pub fn own_type(&mut self, number: u32) -> Result<Id, TypeFault> {
+        let ty = self.example.own_type(number)?;
+        self.types.push(ty)?;
+        Ok(ty)
+    }
+
+    /// The name of a type formal, which has no body.
+    pub fn formal_type(&mut self, number: u32) -> Result<Id, TypeFault> {
+        let ty = self.example.formal_type(number)?;
         self.types.push(ty)?;
         Ok(ty)
     }

@@ -12,13 +12,16 @@ use std::process::Abort;
 /// name with none, nothing else is coerced.
 fn coerces_to_names(rt: &impl Abort, trees: &mut Trees) -> Result<(), TypeFault> {
     let defined = trees.defined_type()?;
-    let plain = trees.named_type(1)?;
+    let plain = trees.formal_type(1)?;
     let truth = trees.ty(Node::TBool)?;
     let x = trees.term(Node::Var(0))?;
     let answer = trees.coerce(Assumed::Bind(defined), x, defined, truth);
     assert!(rt; owes(&answer, truth, &[]));
     let answer = trees.coerce(Assumed::Bind(truth), x, truth, defined);
     assert!(rt; owes(&answer, defined, &[x]));
+    let third = trees.own_type(2)?;
+    let answer = trees.coerce(Assumed::Bind(truth), x, truth, third);
+    assert!(rt; owes(&answer, third, &[x]));
     let answer = trees.coerce(Assumed::Bind(truth), x, truth, plain);
     assert!(rt; is_refused(&answer, Code::Mismatch));
     let answer = trees.coerce(Assumed::Bind(plain), x, plain, truth);
