@@ -1,9 +1,8 @@
 //! The codes with which typing refuses.
 
-use super::{is_refused, owes};
+use super::{coercion_is_refused, coercion_owes, term_is_refused, type_is_refused};
 use crate::trees::Trees;
 use pvs_base::Code;
-use pvs_subst::Assumed;
 use pvs_terms::{Id, Node};
 use pvs_typing::TypeFault;
 use std::process::Abort;
@@ -14,8 +13,8 @@ fn refuses_unbound(rt: &impl Abort, trees: &mut Trees) -> Result<(), TypeFault> 
     let x = trees.term(Node::Var(0))?;
     let above = trees.term(Node::Var(1))?;
     let pair = trees.term(Node::Tup(2, x, above))?;
-    let answer = trees.infer(Assumed::Bind(truth), pair);
-    assert!(rt; is_refused(&answer, Code::Unknown));
+    let holds = term_is_refused(trees, truth, pair, Code::Unknown);
+    assert!(rt; holds);
     Ok(())
 }
 
@@ -30,8 +29,8 @@ fn refuses_application(rt: &impl Abort, trees: &mut Trees) -> Result<(), TypeFau
     let defined = trees.defined_type()?;
     let x = trees.term(Node::Var(0))?;
     let applied = trees.term(Node::App(x, x))?;
-    let answer = trees.infer(Assumed::Bind(defined), applied);
-    assert!(rt; is_refused(&answer, Code::NotFunction));
+    let holds = term_is_refused(trees, defined, applied, Code::NotFunction);
+    assert!(rt; holds);
     Ok(())
 }
 
@@ -47,11 +46,11 @@ fn refuses_components(rt: &impl Abort, trees: &mut Trees) -> Result<(), TypeFaul
     let x = trees.term(Node::Var(0))?;
     let pair = trees.term(Node::Tup(2, x, x))?;
     let first = trees.term(Node::Fst(2, x))?;
-    let answer = trees.infer(Assumed::Bind(defined), first);
-    assert!(rt; is_refused(&answer, Code::NotTuple));
+    let holds = term_is_refused(trees, defined, first, Code::NotTuple);
+    assert!(rt; holds);
     let second = trees.term(Node::Snd(3, pair))?;
-    let answer = trees.infer(Assumed::Bind(defined), second);
-    assert!(rt; is_refused(&answer, Code::NoSuchPart));
+    let holds = term_is_refused(trees, defined, second, Code::NoSuchPart);
+    assert!(rt; holds);
     Ok(())
 }
 
@@ -68,14 +67,14 @@ fn refuses_other_types(rt: &impl Abort, trees: &mut Trees) -> Result<(), TypeFau
     let pair = trees.term(Node::Tup(2, x, x))?;
     let identity = trees.term(Node::Lam(truth, x))?;
     let applied = trees.term(Node::App(identity, pair))?;
-    let answer = trees.infer(Assumed::Bind(truth), applied);
-    assert!(rt; is_refused(&answer, Code::Mismatch));
+    let holds = term_is_refused(trees, truth, applied, Code::Mismatch);
+    assert!(rt; holds);
     let choice = trees.term(Node::If(pair, x, x))?;
-    let answer = trees.infer(Assumed::Bind(truth), choice);
-    assert!(rt; is_refused(&answer, Code::Mismatch));
+    let holds = term_is_refused(trees, truth, choice, Code::Mismatch);
+    assert!(rt; holds);
     let subtype = trees.ty(Node::TSub(truth, pair))?;
-    let answer = trees.well_formed(Assumed::Bind(truth), subtype);
-    assert!(rt; is_refused(&answer, Code::Mismatch));
+    let holds = type_is_refused(trees, truth, subtype, Code::Mismatch);
+    assert!(rt; holds);
     Ok(())
 }
 
@@ -110,10 +109,10 @@ fn refuses_deep_abstraction(rt: &impl Abort, trees: &mut Trees) -> Result<(), Ty
     let deepest = deepest_type(trees)?;
     let outer = trees.term(Node::Var(1))?;
     let constant = trees.term(Node::Lam(truth, outer))?;
-    let answer = trees.infer(Assumed::Bind(deepest), outer);
-    assert!(rt; is_refused(&answer, Code::Unknown));
-    let answer = trees.infer(Assumed::Bind(deepest), constant);
-    assert!(rt; is_refused(&answer, Code::TooLarge));
+    let holds = term_is_refused(trees, deepest, outer, Code::Unknown);
+    assert!(rt; holds);
+    let holds = term_is_refused(trees, deepest, constant, Code::TooLarge);
+    assert!(rt; holds);
     Ok(())
 }
 
@@ -131,11 +130,11 @@ fn refuses_deep_component(rt: &impl Abort, trees: &mut Trees) -> Result<(), Type
     let from = trees.ty(Node::TPair(2, functions, truth))?;
     let to = trees.ty(Node::TPair(2, truth, truth))?;
     let deepest = deep_term(trees, 1000)?;
-    let answer = trees.coerce(Assumed::Bind(from), deepest, from, to);
-    assert!(rt; is_refused(&answer, Code::TooLarge));
+    let holds = coercion_is_refused(trees, deepest, from, to, Code::TooLarge);
+    assert!(rt; holds);
     let x = trees.term(Node::Var(0))?;
-    let answer = trees.coerce(Assumed::Bind(from), x, from, to);
-    assert!(rt; is_refused(&answer, Code::Mismatch));
+    let holds = coercion_is_refused(trees, x, from, to, Code::Mismatch);
+    assert!(rt; holds);
     Ok(())
 }
 
@@ -153,10 +152,10 @@ fn refuses_deep_application(rt: &impl Abort, trees: &mut Trees) -> Result<(), Ty
     let to = trees.ty(Node::TFun(truth, functions))?;
     let other = trees.ty(Node::TFun(functions, truth))?;
     let deepest = deep_term(trees, 1000)?;
-    let answer = trees.coerce(Assumed::Bind(functions), deepest, functions, to);
-    assert!(rt; is_refused(&answer, Code::TooLarge));
-    let answer = trees.coerce(Assumed::Bind(functions), deepest, functions, other);
-    assert!(rt; is_refused(&answer, Code::Mismatch));
+    let holds = coercion_is_refused(trees, deepest, functions, to, Code::TooLarge);
+    assert!(rt; holds);
+    let holds = coercion_is_refused(trees, deepest, functions, other, Code::Mismatch);
+    assert!(rt; holds);
     Ok(())
 }
 
@@ -175,12 +174,12 @@ fn refuses_deep_predicate(rt: &impl Abort, trees: &mut Trees) -> Result<(), Type
     let x = trees.term(Node::Var(0))?;
     let deeper = deep_term(trees, 3)?;
     let to = trees.ty(Node::TSub(truth, predicate))?;
-    let answer = trees.coerce(Assumed::Bind(truth), deeper, truth, to);
-    assert!(rt; is_refused(&answer, Code::TooLarge));
-    let answer = trees.coerce(Assumed::Bind(truth), deeper, functions, to);
-    assert!(rt; is_refused(&answer, Code::Mismatch));
-    let answer = trees.coerce(Assumed::Bind(truth), x, truth, to);
-    assert!(rt; owes(&answer, to, &[predicate]));
+    let holds = coercion_is_refused(trees, deeper, truth, to, Code::TooLarge);
+    assert!(rt; holds);
+    let holds = coercion_is_refused(trees, deeper, functions, to, Code::Mismatch);
+    assert!(rt; holds);
+    let holds = coercion_owes(trees, x, truth, to, &[predicate]);
+    assert!(rt; holds);
     Ok(())
 }
 

@@ -1,9 +1,8 @@
 //! Coercions, case by case.
 
-use super::{is_refused, owes};
+use super::{coercion_is_refused, coercion_owes};
 use crate::trees::Trees;
 use pvs_base::Code;
-use pvs_subst::Assumed;
 use pvs_terms::Node;
 use pvs_typing::TypeFault;
 use std::process::Abort;
@@ -15,17 +14,17 @@ fn coerces_to_names(rt: &impl Abort, trees: &mut Trees) -> Result<(), TypeFault>
     let plain = trees.formal_type(1)?;
     let truth = trees.ty(Node::TBool)?;
     let x = trees.term(Node::Var(0))?;
-    let answer = trees.coerce(Assumed::Bind(defined), x, defined, truth);
-    assert!(rt; owes(&answer, truth, &[]));
-    let answer = trees.coerce(Assumed::Bind(truth), x, truth, defined);
-    assert!(rt; owes(&answer, defined, &[x]));
+    let holds = coercion_owes(trees, x, defined, truth, &[]);
+    assert!(rt; holds);
+    let holds = coercion_owes(trees, x, truth, defined, &[x]);
+    assert!(rt; holds);
     let third = trees.own_type(2)?;
-    let answer = trees.coerce(Assumed::Bind(truth), x, truth, third);
-    assert!(rt; owes(&answer, third, &[x]));
-    let answer = trees.coerce(Assumed::Bind(truth), x, truth, plain);
-    assert!(rt; is_refused(&answer, Code::Mismatch));
-    let answer = trees.coerce(Assumed::Bind(plain), x, plain, truth);
-    assert!(rt; is_refused(&answer, Code::Mismatch));
+    let holds = coercion_owes(trees, x, truth, third, &[x]);
+    assert!(rt; holds);
+    let holds = coercion_is_refused(trees, x, truth, plain, Code::Mismatch);
+    assert!(rt; holds);
+    let holds = coercion_is_refused(trees, x, plain, truth, Code::Mismatch);
+    assert!(rt; holds);
     Ok(())
 }
 
@@ -45,10 +44,10 @@ fn coerces_to_subtypes(rt: &impl Abort, trees: &mut Trees) -> Result<(), TypeFau
     let outer = trees.ty(Node::TSub(truth, equal))?;
     let inner = trees.ty(Node::TSub(outer, x))?;
     let first = trees.term(Node::Eq(yes, no))?;
-    let answer = trees.coerce(Assumed::Bind(truth), yes, truth, inner);
-    assert!(rt; owes(&answer, inner, &[first, yes]));
-    let answer = trees.coerce(Assumed::Bind(truth), yes, outer, inner);
-    assert!(rt; owes(&answer, inner, &[yes]));
+    let holds = coercion_owes(trees, yes, truth, inner, &[first, yes]);
+    assert!(rt; holds);
+    let holds = coercion_owes(trees, yes, outer, inner, &[yes]);
+    assert!(rt; holds);
     Ok(())
 }
 
@@ -73,13 +72,13 @@ fn coerces_to_pairs(rt: &impl Abort, trees: &mut Trees) -> Result<(), TypeFault>
     let dependent = trees.ty(Node::TPair(2, true_values, equals))?;
     let pair = trees.term(Node::Tup(2, yes, no))?;
     let compared = trees.term(Node::Eq(no, yes))?;
-    let answer = trees.coerce(Assumed::Bind(pairs), pair, pairs, dependent);
-    assert!(rt; owes(&answer, dependent, &[yes, compared]));
+    let holds = coercion_owes(trees, pair, pairs, dependent, &[yes, compared]);
+    assert!(rt; holds);
     let first = trees.term(Node::Fst(2, x))?;
     let second = trees.term(Node::Snd(2, x))?;
     let compared = trees.term(Node::Eq(second, first))?;
-    let answer = trees.coerce(Assumed::Bind(pairs), x, pairs, dependent);
-    assert!(rt; owes(&answer, dependent, &[first, compared]));
+    let holds = coercion_owes(trees, x, pairs, dependent, &[first, compared]);
+    assert!(rt; holds);
     Ok(())
 }
 
@@ -96,15 +95,15 @@ fn refuses_other_tuples(rt: &impl Abort, trees: &mut Trees) -> Result<(), TypeFa
     let pairs = trees.ty(Node::TPair(2, truth, truth))?;
     let triples = trees.ty(Node::TPair(3, truth, pairs))?;
     let others = trees.ty(Node::TPair(2, truth, pairs))?;
-    let answer = trees.coerce(Assumed::Bind(triples), x, triples, others);
-    assert!(rt; is_refused(&answer, Code::Mismatch));
-    let answer = trees.coerce(Assumed::Bind(truth), x, truth, pairs);
-    assert!(rt; is_refused(&answer, Code::Mismatch));
+    let holds = coercion_is_refused(trees, x, triples, others, Code::Mismatch);
+    assert!(rt; holds);
+    let holds = coercion_is_refused(trees, x, truth, pairs, Code::Mismatch);
+    assert!(rt; holds);
     let functions = trees.ty(Node::TFun(truth, truth))?;
-    let answer = trees.coerce(Assumed::Bind(pairs), x, pairs, functions);
-    assert!(rt; is_refused(&answer, Code::Mismatch));
-    let answer = trees.coerce(Assumed::Bind(functions), x, functions, truth);
-    assert!(rt; is_refused(&answer, Code::Mismatch));
+    let holds = coercion_is_refused(trees, x, pairs, functions, Code::Mismatch);
+    assert!(rt; holds);
+    let holds = coercion_is_refused(trees, x, functions, truth, Code::Mismatch);
+    assert!(rt; holds);
     Ok(())
 }
 
@@ -125,11 +124,11 @@ fn coerces_ranges(rt: &impl Abort, trees: &mut Trees) -> Result<(), TypeFault> {
     let functions = trees.ty(Node::TFun(truth, truth))?;
     let to = trees.ty(Node::TFun(truth, true_values))?;
     let applied = trees.term(Node::App(above, x))?;
-    let answer = trees.coerce(Assumed::Bind(functions), x, functions, to);
-    assert!(rt; owes(&answer, to, &[applied]));
+    let holds = coercion_owes(trees, x, functions, to, &[applied]);
+    assert!(rt; holds);
     let constant = trees.term(Node::Lam(truth, yes))?;
-    let answer = trees.coerce(Assumed::Bind(functions), constant, functions, to);
-    assert!(rt; owes(&answer, to, &[yes]));
+    let holds = coercion_owes(trees, constant, functions, to, &[yes]);
+    assert!(rt; holds);
     Ok(())
 }
 
@@ -149,8 +148,8 @@ fn coerces_domains(rt: &impl Abort, trees: &mut Trees) -> Result<(), TypeFault> 
     let narrow = trees.ty(Node::TFun(true_values, truth))?;
     let wide = trees.ty(Node::TFun(truth, true_values))?;
     let applied = trees.term(Node::App(above, x))?;
-    let answer = trees.coerce(Assumed::Bind(narrow), x, narrow, wide);
-    assert!(rt; owes(&answer, wide, &[x, applied]));
+    let holds = coercion_owes(trees, x, narrow, wide, &[x, applied]);
+    assert!(rt; holds);
     Ok(())
 }
 

@@ -6,20 +6,6 @@ use pvs_terms::{Id, Node};
 use pvs_typing::TypeFault;
 use std::process::Abort;
 
-/// A subtype of the defined type, which is a subtype of the truth values.
-fn widens_subtypes(rt: &impl Abort, trees: &mut Trees) -> Result<(), TypeFault> {
-    let defined = trees.defined_type()?;
-    let truth = trees.ty(Node::TBool)?;
-    let x = trees.term(Node::Var(0))?;
-    let body = trees.ty(Node::TSub(truth, x))?;
-    let subtype = trees.ty(Node::TSub(defined, x))?;
-    let found = trees.head(Assumed::Bind(truth), subtype)?;
-    assert!(rt; found == truth);
-    let types = trees.up(Assumed::Bind(truth), subtype)?;
-    assert!(rt; is_list(&types, &[subtype, defined, body, truth]));
-    Ok(())
-}
-
 fn is_list(types: &[Id], wanted: &[Id]) -> bool {
     if types.len() != wanted.len() {
         return false;
@@ -30,6 +16,26 @@ fn is_list(types: &[Id], wanted: &[Id]) -> bool {
         }
     }
     true
+}
+
+/// Whether these are the types above a type.
+fn is_up(trees: &mut Trees, variable: Id, ty: Id, wanted: &[Id]) -> Result<bool, TypeFault> {
+    let types = trees.up(Assumed::Bind(variable), ty)?;
+    Ok(is_list(&types, wanted))
+}
+
+/// A subtype of the defined type, which is a subtype of the truth values.
+fn widens_subtypes(rt: &impl Abort, trees: &mut Trees) -> Result<(), TypeFault> {
+    let defined = trees.defined_type()?;
+    let truth = trees.ty(Node::TBool)?;
+    let x = trees.term(Node::Var(0))?;
+    let body = trees.ty(Node::TSub(truth, x))?;
+    let subtype = trees.ty(Node::TSub(defined, x))?;
+    let found = trees.head(Assumed::Bind(truth), subtype)?;
+    assert!(rt; found == truth);
+    let holds = is_up(trees, truth, subtype, &[subtype, defined, body, truth])?;
+    assert!(rt; holds);
+    Ok(())
 }
 
 #[test]

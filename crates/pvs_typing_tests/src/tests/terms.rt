@@ -1,23 +1,10 @@
 //! The types of terms, what it takes to be of a type, and well-formed types.
 
-use super::owes;
+use super::{check_owes, term_owes, type_owes};
 use crate::trees::Trees;
-use pvs_subst::Assumed;
-use pvs_terms::{Id, Node};
+use pvs_terms::Node;
 use pvs_typing::TypeFault;
 use std::process::Abort;
-
-/// Whether a term has this type, with so many conditions.
-fn has_type(
-    trees: &mut Trees,
-    variable: Id,
-    term: Id,
-    ty: Id,
-    conditions: usize,
-) -> Result<bool, TypeFault> {
-    let judged = trees.infer(Assumed::Bind(variable), term)?;
-    Ok(judged.ty == ty && judged.conditions.len() == conditions)
-}
 
 /// An IF of the variable, itself a truth value, and TRUE: of the first type above both.
 fn joins_above(rt: &impl Abort, trees: &mut Trees) -> Result<(), TypeFault> {
@@ -26,7 +13,7 @@ fn joins_above(rt: &impl Abort, trees: &mut Trees) -> Result<(), TypeFault> {
     let x = trees.term(Node::Var(0))?;
     let yes = trees.term(Node::True)?;
     let choice = trees.term(Node::If(x, x, yes))?;
-    let holds = has_type(trees, defined, choice, truth, 0)?;
+    let holds = term_owes(trees, defined, choice, truth, &[]);
     assert!(rt; holds);
     Ok(())
 }
@@ -49,7 +36,7 @@ fn joins_wider(rt: &impl Abort, trees: &mut Trees) -> Result<(), TypeFault> {
     let first = trees.term(Node::Lam(truth, above))?;
     let second = trees.term(Node::Lam(truth, yes))?;
     let choice = trees.term(Node::If(x, first, second))?;
-    let holds = has_type(trees, defined, choice, wide, 0)?;
+    let holds = term_owes(trees, defined, choice, wide, &[]);
     assert!(rt; holds);
     Ok(())
 }
@@ -71,9 +58,9 @@ fn quantifies(rt: &impl Abort, trees: &mut Trees) -> Result<(), TypeFault> {
     let forall = trees.term(Node::Eq(predicate, everywhere))?;
     let pair = trees.term(Node::Tup(2, forall, x))?;
     let second = trees.term(Node::Snd(2, pair))?;
-    let holds = has_type(trees, defined, forall, truth, 0)?;
+    let holds = term_owes(trees, defined, forall, truth, &[]);
     assert!(rt; holds);
-    let holds = has_type(trees, defined, second, defined, 0)?;
+    let holds = term_owes(trees, defined, second, defined, &[]);
     assert!(rt; holds);
     Ok(())
 }
@@ -92,12 +79,12 @@ fn checks_branches(rt: &impl Abort, trees: &mut Trees) -> Result<(), TypeFault> 
     let no = trees.term(Node::False)?;
     let subtype = trees.ty(Node::TSub(truth, x))?;
     let choice = trees.term(Node::If(x, yes, no))?;
-    let answer = trees.check(Assumed::Bind(truth), choice, subtype);
-    assert!(rt; owes(&answer, subtype, &[yes, no]));
+    let holds = check_owes(trees, truth, choice, subtype, &[yes, no]);
+    assert!(rt; holds);
     let pair = trees.term(Node::Tup(2, choice, x))?;
     let pairs = trees.ty(Node::TPair(2, subtype, truth))?;
-    let answer = trees.check(Assumed::Bind(truth), pair, pairs);
-    assert!(rt; owes(&answer, pairs, &[choice]));
+    let holds = check_owes(trees, truth, pair, pairs, &[choice]);
+    assert!(rt; holds);
     Ok(())
 }
 
@@ -114,12 +101,12 @@ fn checks_arguments(rt: &impl Abort, trees: &mut Trees) -> Result<(), TypeFault>
     let x = trees.term(Node::Var(0))?;
     let identity = trees.term(Node::Lam(defined, x))?;
     let applied = trees.term(Node::App(identity, x))?;
-    let answer = trees.infer(Assumed::Bind(truth), applied);
-    assert!(rt; owes(&answer, defined, &[x]));
+    let holds = term_owes(trees, truth, applied, defined, &[x]);
+    assert!(rt; holds);
     let constant = trees.constant(4)?;
     let applied = trees.term(Node::App(identity, constant))?;
-    let answer = trees.infer(Assumed::Bind(truth), applied);
-    assert!(rt; owes(&answer, defined, &[]));
+    let holds = term_owes(trees, truth, applied, defined, &[]);
+    assert!(rt; holds);
     Ok(())
 }
 
@@ -141,7 +128,7 @@ fn depends(rt: &impl Abort, trees: &mut Trees) -> Result<(), TypeFault> {
     let equal_first = trees.term(Node::Eq(x, outer_first))?;
     let wanted = trees.ty(Node::TSub(truth, equal_first))?;
     let second = trees.term(Node::Snd(2, x))?;
-    let holds = has_type(trees, pairs, second, wanted, 0)?;
+    let holds = term_owes(trees, pairs, second, wanted, &[]);
     assert!(rt; holds);
     Ok(())
 }
@@ -162,8 +149,8 @@ fn forms(rt: &impl Abort, trees: &mut Trees) -> Result<(), TypeFault> {
     let applied = trees.term(Node::App(identity, x))?;
     let subtype = trees.ty(Node::TSub(truth, applied))?;
     let functions = trees.ty(Node::TFun(defined, subtype))?;
-    let answer = trees.well_formed(Assumed::Bind(truth), functions);
-    assert!(rt; owes(&answer, functions, &[x]));
+    let holds = type_owes(trees, truth, functions, &[x]);
+    assert!(rt; holds);
     Ok(())
 }
 
