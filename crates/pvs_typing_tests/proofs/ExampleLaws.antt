@@ -1,14 +1,14 @@
 -- The theories for tests stay what they are where the store grows.
 use Rattle.std.proofs.Common.{◌<◌, arith, zero, suc, List, [], ◌∷◌, ◌++◌, get_or, ◌≡◌, ℕ, Bool, true, false, cond, Some, None, Ok, refl, ap, ◌∙◌, sym, subst}
-use Rattle.pvs_terms.specs.Tree.{Tree, Leaf, Var, Name, Bind, Join, Project, If, Ref, IsWithinLimits, ref_eq}
+use Rattle.pvs_terms.specs.Tree.{Tree, Leaf, Var, Name, Bind, Join, Project, If, Ref, Own, Formal, Inst, TName, IsWithinLimits, ref_eq}
 use Rattle.pvs_terms.specs.Sorts.{IsType, sort_of}
 use Rattle.pvs_terms.specs.declared.shape.Sort.{Sort}
 use Rattle.pvs_terms.specs.Stored.{Stored, tree_at, ref_at, Extends, Stands}
 use Rattle.pvs_sig.specs.Lookups.{type_size, IsOrdered}
-use Rattle.pvs_types.specs.Forms.{body}
+use Rattle.pvs_types.specs.Forms.{body, small_body}
 use Rattle.pvs_types.proofs.LimitsLaws.{limits_decided}
 use Rattle.pvs_typing.specs.Growth.{EachName, IsKnown, Keeps}
-use Rattle.pvs_typing_tests.specs.Example.{AllOf, example_lookups, IsDeclared, IsExample, IsOf}
+use Rattle.pvs_typing_tests.specs.Example.{AllOf, example_lookups, example_rank, previous, IsDeclared, IsExample, IsOf}
 
 pub all_declared : (t : Tree) → EachName IsDeclared t
 all_declared (Leaf o) = tt
@@ -26,7 +26,7 @@ example_kept {a = a} {d = d} {b = b} k h = record {
   defined = k.refs d h.defined;
   body = k.nodes b h.body;
   body_sort = subst IsType (sym (k.trees b h.body)) h.body_sort;
-  small = ap (type_size (λ r. 2)) (k.trees b h.body) ∙ h.small;
+  small = ap (type_size example_rank) (k.trees b h.body) ∙ h.small;
 }
 
 pub lookups_kept : {s t : Stored} {a d b : ℕ} → Extends s t → IsExample s a d b → Keeps s IsDeclared (example_lookups s a d b) t IsDeclared (example_lookups t a d b)
@@ -36,18 +36,38 @@ lookups_kept {a = a} {d = d} {b = b} k h = record {
   lookups = rw (k.trees a h.node, k.references d h.defined, k.trees b h.body) refl;
 }
 
+at_least : (r : Ref) → 2 < suc (example_rank r)
+at_least (Own n) = omega arith
+at_least (Formal n) = omega arith
+at_least (Inst a n xs) = omega arith
+
+previous_smaller : (r : Ref) (t : Tree) → previous r ≡ Some t → type_size example_rank t < suc (example_rank r)
+previous_smaller (Own zero) t e = absurd (cc)
+previous_smaller (Own (suc n)) t e = let k : TName (Own n) ≡ t = cc in rw (← k) (omega arith)
+previous_smaller (Formal n) t e = absurd (cc)
+previous_smaller (Inst a n xs) t e = absurd (cc)
+
 pub example_ordered : {s : Stored} {a d b : ℕ} → IsExample s a d b → IsOrdered (example_lookups s a d b)
 example_ordered {s} {a} {d} {b} h r t e = go (ref_eq r (ref_at s d)) e
   where
-    go : (x : Bool) → cond x (Some (tree_at s b)) None ≡ Some t → type_size (λ _. 2) t < 3
-    go true e = let k : tree_at s b ≡ t = cc in rw (← k, h.small) (omega arith)
-    go false e = absurd (cc)
+    go : (x : Bool) → cond x (Some (tree_at s b)) (previous r) ≡ Some t → type_size example_rank t < suc (example_rank r)
+    go true e = let k : tree_at s b ≡ t = cc in rw (← k, h.small) (at_least r)
+    go false e = previous_smaller r t e
 
 pub body_found : (s : Stored) (a d b : ℕ) (r : Ref) → ref_eq r (ref_at s d) ≡ true → IsWithinLimits (tree_at s b) → body (example_lookups s a d b) r ≡ Ok (Some (tree_at s b))
 body_found s a d b r e h = rw (e, (limits_decided (tree_at s b)).1 h) refl
 
-pub body_lacking : (s : Stored) (a d b : ℕ) (r : Ref) → ref_eq r (ref_at s d) ≡ false → body (example_lookups s a d b) r ≡ Ok None
-body_lacking s a d b r e = rw e refl
+pub name_small : (r : Ref) → (n : ℕ) → r ≡ Own n → IsWithinLimits (TName r)
+name_small r n e = rw e (record { deep = omega arith; large = omega arith; index = omega arith })
+
+pub previous_small : (r : Ref) → small_body (previous r) ≡ Ok (previous r)
+previous_small (Own zero) = refl
+previous_small (Own (suc n)) = refl
+previous_small (Formal n) = refl
+previous_small (Inst a n xs) = refl
+
+pub body_previous : (s : Stored) (a d b : ℕ) (r : Ref) → ref_eq r (ref_at s d) ≡ false → body (example_lookups s a d b) r ≡ Ok (previous r)
+body_previous s a d b r e = rw e (previous_small r)
 
 pub known_of : (s : Stored) (o : Sort) (i : ℕ) → IsOf s o i → IsKnown s IsDeclared o i
 known_of s o i h = record { node = h.node; sort = h.sort; names = all_declared (tree_at s i) }

@@ -1,84 +1,76 @@
-//! The types of terms, in the context of one variable of a type whose body is a subtype.
+//! The forms of types, coercions, the types of terms, and the codes of refusals, in the context of one
+//! variable.
+
+mod codes;
+mod coercions;
+mod forms;
+mod terms;
 
 use crate::trees::Trees;
+use pvs_base::Code;
 use pvs_subst::Assumed;
-use pvs_terms::{Id, Node};
-use pvs_typing::TypeFault;
-use std::process::Abort;
+use pvs_terms::Id;
+use pvs_typing::{Judged, TypeFault};
 
-/// Whether a term has this type, with so many conditions.
-fn has_type(
-    trees: &mut Trees,
-    variable: Id,
-    term: Id,
-    ty: Id,
-    conditions: usize,
-) -> Result<bool, TypeFault> {
-    let judged = trees.infer(Assumed::Bind(variable), term)?;
-    Ok(judged.ty == ty && judged.conditions.len() == conditions)
+fn has_goals(judged: &Judged, goals: &[Id]) -> bool {
+    if judged.conditions.len() != goals.len() {
+        return false;
+    }
+    for (condition, goal) in judged.conditions.iter().zip(goals) {
+        if condition.goal != *goal {
+            return false;
+        }
+    }
+    true
 }
 
-/// An IF of the variable, itself a truth value, and TRUE: of the first type above both.
-fn joins_above(rt: &impl Abort, trees: &mut Trees) -> Result<(), TypeFault> {
-    let defined = trees.defined_type()?;
-    let truth = trees.ty(Node::TBool)?;
-    let x = trees.term(Node::Var(0))?;
-    let yes = trees.term(Node::True)?;
-    let choice = trees.term(Node::If(x, x, yes))?;
-    let holds = has_type(trees, defined, choice, truth, 0)?;
-    assert!(rt; holds);
-    Ok(())
+/// Whether an answer has this type, and owes these goals, in this order.
+fn owes(answer: Result<Judged, TypeFault>, ty: Id, goals: &[Id]) -> bool {
+    match answer {
+        Ok(judged) => judged.ty == ty && has_goals(&judged, goals),
+        Err(_) => false,
+    }
 }
 
-#[test]
-fn branches_join_at_a_type_above_both(rt: HostRuntime) -> Result<(), TypeFault> {
-    let mut trees = Trees::new(rt.alloc())?;
-    joins_above(&rt, &mut trees)
+/// Whether an answer is a refusal with this code.
+fn is_refused(answer: Result<Judged, TypeFault>, code: Code) -> bool {
+    match answer {
+        Err(TypeFault::Refused(found)) => found == code,
+        _ => false,
+    }
 }
 
-/// An IF of functions to the defined type and to the truth values: of the most general form of the
-/// first.
-fn joins_wider(rt: &impl Abort, trees: &mut Trees) -> Result<(), TypeFault> {
-    let defined = trees.defined_type()?;
-    let truth = trees.ty(Node::TBool)?;
-    let wide = trees.ty(Node::TFun(truth, truth))?;
-    let x = trees.term(Node::Var(0))?;
-    let above = trees.term(Node::Var(1))?;
-    let yes = trees.term(Node::True)?;
-    let first = trees.term(Node::Lam(truth, above))?;
-    let second = trees.term(Node::Lam(truth, yes))?;
-    let choice = trees.term(Node::If(x, first, second))?;
-    let holds = has_type(trees, defined, choice, wide, 0)?;
-    assert!(rt; holds);
-    Ok(())
+/// Whether a term has this type, and owes these goals, where a variable of a type is bound.
+fn term_owes(trees: &mut Trees, variable: Id, term: Id, ty: Id, goals: &[Id]) -> bool {
+    owes(trees.infer(Assumed::Bind(variable), term), ty, goals)
 }
 
-#[test]
-fn branches_join_at_the_most_general_form(rt: HostRuntime) -> Result<(), TypeFault> {
-    let mut trees = Trees::new(rt.alloc())?;
-    joins_wider(&rt, &mut trees)
+/// Whether a term is refused with this code.
+fn term_is_refused(trees: &mut Trees, variable: Id, term: Id, code: Code) -> bool {
+    is_refused(trees.infer(Assumed::Bind(variable), term), code)
 }
 
-/// FORALL over the defined type, and the components of a tuple.
-fn quantifies(rt: &impl Abort, trees: &mut Trees) -> Result<(), TypeFault> {
-    let defined = trees.defined_type()?;
-    let truth = trees.ty(Node::TBool)?;
-    let x = trees.term(Node::Var(0))?;
-    let yes = trees.term(Node::True)?;
-    let predicate = trees.term(Node::Lam(defined, x))?;
-    let everywhere = trees.term(Node::Lam(defined, yes))?;
-    let forall = trees.term(Node::Eq(predicate, everywhere))?;
-    let pair = trees.term(Node::Tup(2, forall, x))?;
-    let second = trees.term(Node::Snd(2, pair))?;
-    let holds = has_type(trees, defined, forall, truth, 0)?;
-    assert!(rt; holds);
-    let holds = has_type(trees, defined, second, defined, 0)?;
-    assert!(rt; holds);
-    Ok(())
+/// Whether a term owes these goals against a type.
+fn check_owes(trees: &mut Trees, variable: Id, term: Id, ty: Id, goals: &[Id]) -> bool {
+    owes(trees.check(Assumed::Bind(variable), term, ty), ty, goals)
 }
 
-#[test]
-fn a_forall_is_a_truth_value(rt: HostRuntime) -> Result<(), TypeFault> {
-    let mut trees = Trees::new(rt.alloc())?;
-    quantifies(&rt, &mut trees)
+/// Whether a type owes these goals.
+fn type_owes(trees: &mut Trees, variable: Id, ty: Id, goals: &[Id]) -> bool {
+    owes(trees.well_formed(Assumed::Bind(variable), ty), ty, goals)
+}
+
+/// Whether a type is refused with this code.
+fn type_is_refused(trees: &mut Trees, variable: Id, ty: Id, code: Code) -> bool {
+    is_refused(trees.well_formed(Assumed::Bind(variable), ty), code)
+}
+
+/// Whether a term of the type of the bound variable owes these goals against another type.
+fn coercion_owes(trees: &mut Trees, term: Id, from: Id, to: Id, goals: &[Id]) -> bool {
+    owes(trees.coerce(Assumed::Bind(from), term, from, to), to, goals)
+}
+
+/// Whether a term of the type of the bound variable is refused with this code against another type.
+fn coercion_is_refused(trees: &mut Trees, term: Id, from: Id, to: Id, code: Code) -> bool {
+    is_refused(trees.coerce(Assumed::Bind(from), term, from, to), code)
 }

@@ -12,7 +12,7 @@ use crate::example::Example;
 use pvs_base::Code;
 use pvs_subst::{Assumed, Context};
 use pvs_terms::{Id, Name, Node, RefId, RefKind, Sort, Store};
-use pvs_typing::{Judged, Theories, TypeFault, infer};
+use pvs_typing::{Judged, Theories, TypeFault, check, coerce, head, infer, most, up, well_formed};
 use sqlite_items::Items;
 use std::alloc::Global;
 
@@ -28,12 +28,20 @@ pub struct Trees {
     ghost terms_known: { AllOf example.store OfTerm terms.items },
 }
 
+/// The answer to a test that takes a part which was not made before. Typing never gives this code.
+fn not_made() -> TypeFault {
+    TypeFault::Refused(Code::Unexpected)
+}
+
+/// Whether a number is among these. The latest come first.
 fn is_among(store: &Store, sort: Sort, ids: &[Id], id: Id) -> bool
     requires { AllOf store.now sort ids.now }
     ensures { result ≡ true → IsKnown store.now IsDeclared sort id }
 {
-    for known in ids {
-        if *known == id {
+    let mut left = ids.len();
+    while left > 0 {
+        left -= 1;
+        if ids[left] == id {
             return true;
         }
     }
@@ -101,6 +109,28 @@ impl Trees {
         Ok(ty)
     }
 
+    /// The name of the theory's own type of this number. That of the defined type is 0, and each other
+    /// one is defined as the one before it.
+    pub fn own_type(&mut self, number: u32) -> Result<Id, TypeFault> {
+        let ty = self.example.own_type(number)?;
+        self.types.push(ty)?;
+        Ok(ty)
+    }
+
+    /// The name of a type formal, which has no body.
+    pub fn formal_type(&mut self, number: u32) -> Result<Id, TypeFault> {
+        let ty = self.example.formal_type(number)?;
+        self.types.push(ty)?;
+        Ok(ty)
+    }
+
+    /// The constant of this number, of the defined type.
+    pub fn constant(&mut self, number: u32) -> Result<Id, TypeFault> {
+        let term = self.example.constant(number)?;
+        self.terms.push(term)?;
+        Ok(term)
+    }
+
     fn is_type(&self, ty: Id) -> bool
         ensures { result ≡ true → IsKnown self.now.example.store IsDeclared OfType ty }
     {
@@ -146,7 +176,7 @@ impl Trees {
 
     pub fn ty(&mut self, node: Node) -> Result<Id, TypeFault> {
         if !self.makes_type(&node) {
-            return Err(TypeFault::Refused(Code::Unknown));
+            return Err(not_made());
         }
         let made = self.example.make(node)?;
         self.types.push(made)?;
@@ -155,7 +185,7 @@ impl Trees {
 
     pub fn term(&mut self, node: Node) -> Result<Id, TypeFault> {
         if !self.makes_term(&node) {
-            return Err(TypeFault::Refused(Code::Unknown));
+            return Err(not_made());
         }
         let made = self.example.make(node)?;
         self.terms.push(made)?;
@@ -171,14 +201,84 @@ impl Trees {
         }
     }
 
-    /// The type of a term in the context of this one item.
-    pub fn infer(&mut self, item: Assumed, term: Id) -> Result<Judged, TypeFault> {
-        if !self.is_item(&item) || !self.is_term(term) {
-            return Err(TypeFault::Refused(Code::Unknown));
+    /// The context of this one item.
+    fn context(&self, item: &Assumed) -> Result<Context, TypeFault>
+        ensures known { IfOk result (λ g. IsKnownContext self.now.example.store IsDeclared g.items) }
+    {
+        if !self.is_item(item) {
+            return Err(not_made());
         }
         let mut items = Items::new(self.example.store().allocator());
-        items.push(item)?;
-        let context = Context { items };
+        items.push(*item)?;
+        Ok(Context { items })
+    }
+
+    /// The type of a term in the context of this one item.
+    pub fn infer(&mut self, item: Assumed, term: Id) -> Result<Judged, TypeFault> {
+        let context = self.context(&item)?;
+        if !self.is_term(term) {
+            return Err(not_made());
+        }
         infer(&mut self.example, self.theory, &context, term)
+    }
+
+    /// What it takes for a term to be of a type, in the context of this one item.
+    pub fn check(&mut self, item: Assumed, term: Id, ty: Id) -> Result<Judged, TypeFault> {
+        let context = self.context(&item)?;
+        if !self.is_term(term) || !self.is_type(ty) {
+            return Err(not_made());
+        }
+        check(&mut self.example, self.theory, &context, term, ty)
+    }
+
+    /// What makes a type well formed, in the context of this one item.
+    pub fn well_formed(&mut self, item: Assumed, ty: Id) -> Result<Judged, TypeFault> {
+        let context = self.context(&item)?;
+        if !self.is_type(ty) {
+            return Err(not_made());
+        }
+        well_formed(&mut self.example, self.theory, &context, ty)
+    }
+
+    /// What it takes for a term of one type to be of another, in the context of this one item.
+    pub fn coerce(
+        &mut self,
+        item: Assumed,
+        term: Id,
+        from: Id,
+        to: Id,
+    ) -> Result<Judged, TypeFault> {
+        let context = self.context(&item)?;
+        if !self.is_term(term) || !self.is_type(from) || !self.is_type(to) {
+            return Err(not_made());
+        }
+        coerce(&mut self.example, self.theory, &context, term, from, to)
+    }
+
+    /// The head of a type.
+    pub fn head(&mut self, item: Assumed, ty: Id) -> Result<Id, TypeFault> {
+        let context = self.context(&item)?;
+        if !self.is_type(ty) {
+            return Err(not_made());
+        }
+        head(&mut self.example, self.theory, &context, ty)
+    }
+
+    /// The types above a type.
+    pub fn up(&mut self, item: Assumed, ty: Id) -> Result<Vec<Id>, TypeFault> {
+        let context = self.context(&item)?;
+        if !self.is_type(ty) {
+            return Err(not_made());
+        }
+        up(&mut self.example, self.theory, &context, ty)
+    }
+
+    /// The most general form of a type.
+    pub fn most(&mut self, item: Assumed, ty: Id) -> Result<Id, TypeFault> {
+        let context = self.context(&item)?;
+        if !self.is_type(ty) {
+            return Err(not_made());
+        }
+        most(&mut self.example, self.theory, &context, ty)
     }
 }

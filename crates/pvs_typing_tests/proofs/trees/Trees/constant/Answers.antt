@@ -1,0 +1,16 @@
+use Rattle.std.proofs.Common.{is_ok, sym, subst}
+use Rattle.pvs_terms.specs.declared.shape.Sort.TheVariants.{OfType, OfTerm}
+use Rattle.pvs_typing_tests.specs.Example.{AllOf}
+use Rattle.pvs_typing_tests.proofs.ExampleLaws.{all_of_kept, all_of-after}
+use Rattle.pvs_typing_tests.proofs.trees.Trees.constant.Goals as goal
+
+pub invariant_of-self-2 : goal.invariant_of-self-2
+invariant_of-self-2 c =
+    let me = c.args.self.now in
+    let k = c.constant.ensures.kept in
+    let u = c.constant.new.self.store in
+    record {
+      named = k.names me.theory me.named;
+      types_known = all_of_kept me.example.store u OfType me.types.items k me.types_known;
+      terms_known = subst (AllOf u OfTerm) (sym c.push.ensures.items) (all_of-after u OfTerm me.terms.items c.in_ok-term.term (is_ok c.push.result) (all_of_kept me.example.store u OfTerm me.terms.items k me.terms_known) c.in_ok-term.ensures.ok);
+    }
