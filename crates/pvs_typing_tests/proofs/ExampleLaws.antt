@@ -1,5 +1,5 @@
 -- The theories for tests stay what they are where the store grows.
-use Rattle.std.proofs.Common.{◌<◌, arith, zero, suc, List, [], ◌∷◌, ◌++◌, get_or, ◌≡◌, ℕ, Bool, true, false, cond, Some, None, Ok, refl, ap, ◌∙◌, sym, subst}
+use Rattle.std.proofs.Common.{◌<◌, arith, zero, suc, List, [], ◌∷◌, ◌++◌, get_or, ◌≡◌, ℕ, Bool, true, false, cond, Some, Ok, refl, ap, ◌∙◌, sym, subst}
 use Rattle.pvs_terms.specs.Tree.{Tree, Leaf, Var, Name, Bind, Join, Project, If, Ref, Own, Formal, Inst, TName, IsWithinLimits, ref_eq}
 use Rattle.pvs_terms.specs.Sorts.{IsType, sort_of}
 use Rattle.pvs_terms.specs.declared.shape.Sort.{Sort}

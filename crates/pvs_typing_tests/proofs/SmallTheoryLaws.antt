@@ -1,15 +1,14 @@
 -- The theory of the tests may stand, and its constant is declared there.
-use Rattle.std.proofs.Common.{◌≡◌, ◌<◌, inl, inr, ℕ, zero, suc, Some, None, Option, List, [], ◌∷◌, map, false, refl, sym, ap, ap₂, ◌∙◌, subst, cond, arith}
-use Rattle.std.specs.Prelude.{bytes_eq}
-use Rattle.pvs_terms.specs.Tree.{Text, Tree, Own, TBool, TName, Const}
-use Rattle.pvs_terms.specs.declared.shape.Sort.TheVariants.{OfType, OfTerm}
-use Rattle.pvs_terms.specs.Stored.{Stored, Extends, Stands, IsName, text_at, tree_at}
+use Rattle.std.proofs.Common.{◌≡◌, ℕ, zero, suc, Some, None, [], ◌∷◌, map, false, refl, sym, ap, ap₂, ◌∙◌, subst, arith}
+use Rattle.pvs_terms.specs.Tree.{Text, Own, TBool, TName, Const}
+use Rattle.pvs_terms.specs.declared.shape.Sort.TheVariants.{OfTerm}
+use Rattle.pvs_terms.specs.Stored.{Stored, Extends, Stands, IsName, text_at}
 use Rattle.pvs_terms.proofs.StoredLaws.{extends_trans}
 use Rattle.pvs_sig.specs.declared.signature.Signature as numbers
-use Rattle.pvs_sig.specs.Signature.{Signature, Kind, TypeSig, ConstSig, kind_at, formal_at}
-use Rattle.pvs_sig.specs.SignatureAt.{AllIn, signature_at, formal_sig_at, entry_at, import_at, SignatureIn, FormalIn, EntryIn, ImportIn}
+use Rattle.pvs_sig.specs.Signature.{Kind, TypeSig, ConstSig, kind_at, formal_at}
+use Rattle.pvs_sig.specs.SignatureAt.{AllIn, signature_at, entry_at, SignatureIn, FormalIn, EntryIn, ImportIn}
 use Rattle.pvs_sig.specs.References.{KindEach}
-use Rattle.pvs_sig.specs.Development.{Development, theory_named, IsSignatureOver, IsKindOver, IsBefore, formals_seen}
+use Rattle.pvs_sig.specs.Development.{Development, IsSignatureOver, IsKindOver, IsBefore, formals_seen}
 use Rattle.pvs_instantiate.specs.InstancesView.{InstancesView, development, Leaves}
 use Rattle.pvs_instantiate.proofs.TheoryLaws.{itself}
 use Rattle.pvs_typing.specs.Growth.{IsKnown}

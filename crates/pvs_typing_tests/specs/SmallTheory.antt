@@ -1,11 +1,10 @@
 -- A theory for tests: a type that is defined as BOOLEAN, and a constant of that type.
 use Rattle.std.specs.Prelude.{◌≡◌, ℕ, false, Some, None, [], ◌∷◌}
 use Rattle.pvs_terms.specs.Tree.{Text, Own, TBool, TName, Const}
-use Rattle.pvs_terms.specs.Stored.{Stored, IsName, IsNode, tree_at}
+use Rattle.pvs_terms.specs.Stored.{Stored, IsNode, tree_at}
 use Rattle.pvs_sig.specs.declared.signature.EntryKind.TheVariants as kinds
 use Rattle.pvs_sig.specs.declared.signature.Signature as numbers
 use Rattle.pvs_sig.specs.Signature.{Signature, TypeSig, ConstSig}
-use Rattle.pvs_instantiate.specs.InstancesView.{InstancesView, development}
 
 -- the numbers of its trees
 pub record AreTrees (s : Stored) (boolean ty constant : ℕ) : Type 0 where
