@@ -1,6 +1,6 @@
 """Writes the report of the unit on standard input, as `pvscore check` does.
 
-    PVS_STAGE=R8 python3 tests/reference check <UNIT
+    PVS_STAGE=8 python3 tests/reference check <UNIT
 """
 
 import os
@@ -18,7 +18,7 @@ def main():
         print('usage: pvscore check')
         return 2
     text = sys.stdin.buffer.read().decode('latin-1')
-    report, status = report_of(text, int(os.environ.get('PVS_STAGE', 'R9').lstrip('R')))
+    report, status = report_of(text, int(os.environ.get('PVS_STAGE', '9').lstrip('R')))
     sys.stdout.buffer.write(report.encode('latin-1'))
     return status
 
