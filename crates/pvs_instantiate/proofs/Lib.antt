@@ -10,3 +10,4 @@ pub mod GrowLaws
 pub mod RestLaws
 pub mod VisibleLaws
 pub mod ExampleLaws
+pub mod ImportingLaws

@@ -3,3 +3,4 @@ pub mod KeptTrees
 pub mod Places
 pub mod Growing
 pub mod Examples
+pub mod Importing

@@ -1,6 +1,7 @@
 //! The public calls, with caches that count, forget at random and refuse each pair.
 
 mod caches;
+mod growing;
 
 ghost use Rattle.std.specs.Prelude.{◌≡◌, ℕ, [], ◌∷◌, false, Some, None, IfOk};
 ghost use Rattle.pvs_terms.specs.Tree as tree;
