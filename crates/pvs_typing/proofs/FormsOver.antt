@@ -89,6 +89,9 @@ head_fault l m ordered k t u fault.Memory h r = tt
 pub head_goes_on : (s : Stored) (l m : Lookups) → IsOrdered l → m ≡ l → (u : Tree) (o : Option ℕ) (i : ℕ) → o ≡ Some i → next_above m u ≡ Ok (tree_option s o) → head l u ≡ head l (tree_at s i)
 head_goes_on s l m ordered k u o i is h = head_above l ordered u (tree_at s i) (ap (λ x. next_above x u) (sym k) ∙ h ∙ ap (λ x. Ok (tree_option s x)) is)
 
+pub head_ends : (s : Stored) (l m : Lookups) → IsOrdered l → m ≡ l → (u : Tree) (o : Option ℕ) → o ≡ None → next_above m u ≡ Ok (tree_option s o) → head l u ≡ Ok u
+head_ends s l m ordered k u o is h = head_itself l ordered u (ap (λ x. next_above x u) (sym k) ∙ h ∙ ap (λ x. Ok (tree_option s x)) is)
+
 -- the types above, from those that are listed and those that follow
 abbrev pub listed : List Tree → Result (List Tree) Code → Result (List Tree) Code
 listed ts x = x >>= (λ us. Ok (ts ++ us))

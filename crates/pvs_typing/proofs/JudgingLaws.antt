@@ -16,8 +16,9 @@ use Rattle.pvs_sig.specs.Lookups.{Lookups, IsOrdered}
 use Rattle.pvs_types.specs.Outcome.{Conditions, Outcome, Refused, Accepted, outcome_after, ◌>>=◌, pure, refuse, from_result, within_limits}
 use Rattle.pvs_typing.specs.declared.fault.TypeFault.{TypeFault}
 use Rattle.pvs_typing.specs.declared.fault.TypeFault.TheVariants as fault
-use Rattle.pvs_typing.specs.Answers.{Gives, IsFault, IsRefusal}
-use Rattle.pvs_typing.specs.Growth.{IsKnown, IsKnownItem, IsKnownContext, Keeps}
+use Rattle.pvs_typing.specs.Answers.{Gives, IsFault, IsRefusal, Makes}
+use Rattle.pvs_typing.specs.Growth.{IsKnown, IsKnownContext, Keeps}
+use Rattle.pvs_typing.specs.State.{State, IsItemOf, IsContextOf, AreConditionsOf, Grows}
 use Rattle.pvs_types.specs.Symbols.{symbols}
 use Rattle.pvs_types.specs.Uses.{AreSameSymbols, Uses}
 use Rattle.pvs_typing.specs.Owed.{conditions_at, refs_at, AreKnownConditions, Judges, Owes}
@@ -33,9 +34,9 @@ then_assoc (Accepted a cs rs) f k = sym (after_then cs rs (f a) k)
 
 -- What is given.
 
-pub given_kept : {s t : Stored} {P Q : Sort → Ref → Type 0} {l m : Lookups} {theory : ℕ} {g : List Assumed} {cs ds : List Condition}
-    → Keeps s P l t Q m → IsGiven s P l theory g cs → AreKnownConditions t Q ds → IsGiven t Q m theory g ds
-given_kept {theory = theory} {g = g} k h n = record {
+pub given_kept : {k m : State} {theory : ℕ} {g : List Assumed} {cs ds : List Condition}
+    → IsGiven k theory g cs → Grows k m theory → AreConditionsOf m theory ds → IsGiven m theory g ds
+given_kept {theory = theory} {g = g} h k n = record {
   name = k.stored.names theory h.name;
   context = context_kept g k h.context;
   conditions = n;
@@ -43,13 +44,13 @@ given_kept {theory = theory} {g = g} k h n = record {
 }
 
 -- inside one more item
-pub given_under : {s : Stored} {P : Sort → Ref → Type 0} {l : Lookups} {theory : ℕ} {g h : List Assumed} {cs : List Condition} (x : Assumed)
-    → IsGiven s P l theory g cs → IsKnownItem s P x → h ≡ x ∷ g → IsGiven s P l theory h cs
-given_under {s} {P} x k n e = record {
-  name = k.name;
-  context = subst (IsKnownContext s P) (sym e) (n, k.context);
-  conditions = k.conditions;
-  ordered = k.ordered;
+pub given_under : {k : State} {theory : ℕ} {g h : List Assumed} {cs : List Condition} (x : Assumed)
+    → IsGiven k theory g cs → IsItemOf k theory x → h ≡ x ∷ g → IsGiven k theory h cs
+given_under {k} {theory} x h n e = record {
+  name = h.name;
+  context = subst (IsContextOf k theory) (sym e) (n, h.context);
+  conditions = h.conditions;
+  ordered = h.ordered;
 }
 
 -- What is answered.
@@ -171,6 +172,13 @@ pub made_answers : {s : Stored} {P : Sort → Ref → Type 0} (n : Sort) (t : Tr
     → IfOk r (Gives s P n t) → IfErr r (IsFault (within_limits t)) → Answers (tree_at s) s P [] (within_limits t) [] r
 made_answers {s = s} {P = P} n t (Ok i) h f = record { is = accepts_pure s P (within_limits t) (tree_at s i) (fits_within t h.fits ∙ ap pure (sym h.tree)) }
 made_answers n t (Err e) h f = record { is = f }
+
+pub made_known : {k m : State} {theory : ℕ} {o : Sort} {f : Stored → Tree} {r : Result ℕ TypeFault} → Makes k m theory o f r → IfOk r (IsKnown m.stored (m.declares theory) o)
+made_known {k} {m} {theory} {o} {f} {r} h = go r h.ok
+  where
+    go : (q : Result ℕ TypeFault) → IfOk q (Gives m.stored (m.declares theory) o (f k.stored)) → IfOk q (IsKnown m.stored (m.declares theory) o)
+    go (Ok i) x = x.known
+    go (Err e) x = tt
 
 pub made_accepts : {s : Stored} {P : Sort → Ref → Type 0} {n : Sort} {t : Tree} {i : ℕ} → Gives s P n t i → Accepts s P [] (within_limits t) (tree_at s i) []
 made_accepts {s = s} {P = P} {t = t} {i = i} h = accepts_pure s P (within_limits t) (tree_at s i) (fits_within t h.fits ∙ ap pure (sym h.tree))

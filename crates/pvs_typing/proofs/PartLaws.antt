@@ -20,7 +20,10 @@ use Rattle.pvs_terms.specs.declared.fault.MakeFault.{MakeFault}
 use Rattle.pvs_terms.specs.declared.fault.MakeFault.TheVariants as made
 use Rattle.pvs_subst.specs.declared.fault.SubstFault.{SubstFault}
 use Rattle.pvs_subst.specs.declared.fault.SubstFault.TheVariants as replaced
-use Rattle.pvs_typing.specs.Answers.{Gives, IsFault, of_make, of_subst}
+use Rattle.pvs_typing.specs.declared.fault.TypeFault.{TypeFault}
+use Rattle.pvs_typing.specs.declared.fault.TypeFault.TheVariants as fault
+use Rattle.pvs_typing.specs.code.Tasks.{both, both_within}
+use Rattle.pvs_typing.specs.Answers.{Gives, IsFault, IsMemory, of_make, of_subst}
 use Rattle.pvs_typing.proofs.GrowthLaws.{each_weaker, each-lift, each-put_in, keeps_trans, known_kept}
 
 -- a number that stands for a tree of this sort with declared names
@@ -146,3 +149,16 @@ make_fault o made.Memory h = tt
 pub subst_fault : {A X : Type 0} (o : Outcome A) (e : SubstFault) → (◌≡◌ {A = Result X SubstFault} (Err e) (Err replaced.TooLarge) → o ≡ Refused TooLarge) → IsFault o (of_subst e)
 subst_fault o replaced.TooLarge h = h refl
 subst_fault o replaced.Memory h = tt
+
+-- being out of memory says nothing of an outcome
+pub memory_fault : {A : Type 0} (o : Outcome A) (e : TypeFault) → IsMemory e → IsFault o e
+memory_fault o (fault.Refused c) h = absurd h
+memory_fault o fault.Memory h = tt
+
+-- the second of two trees
+pub both_fault : (a b : Tree) (e : TypeFault) → IsWithinLimits a → IsFault (within_limits b) e → IsFault (both_within a b) e
+both_fault a b (fault.Refused c) h k = go (within_limits a) (within_limits b) (fits_within a h) k
+  where
+    go : (x y : Outcome Tree) → x ≡ pure a → y ≡ Refused c → both x y ≡ Refused c
+    go x y f k = rw (f, k) refl
+both_fault a b fault.Memory h k = tt

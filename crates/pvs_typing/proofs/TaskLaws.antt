@@ -224,6 +224,12 @@ name_done {s} {t} {l = l} u R g a b d r o k h j e n x y =
     let z : head_outcome l (tree_at s b) (TName r) ≡ pure tt = rw (← k.lookups, ← k.stored.trees b h.node, ← e, ← k.stored.trees d j.node) y in
     done_follows l u R (coerce_to l (coerce l) g a (tree_at s b) (TName r)) (tree_at s b) (TName r) (name_without l g a (tree_at s b) r (x ∙ ap (λ q. Ok (tree_option t q)) n) ∙ z)
 
+pub name_fault : {s t : Stored} {P Q : Sort → Ref → Type 0} {l m : Lookups} (g : Assumptions) (a : Tree) (b d : ℕ) (r : Ref) (o : Option ℕ) (x : TypeFault) → Keeps s P l t Q m → IsKnown s P OfType b → IsKnown s P OfType d
+    → tree_at s d ≡ TName r → o ≡ None → body l r ≡ Ok (tree_option t o) → IsFault (head_outcome m (tree_at t b) (tree_at t d)) x → IsFault (coerce_to l (coerce l) g a (tree_at s b) (TName r)) x
+name_fault {s} {t} {l = l} g a b d r o x k h j e n y f =
+    let z : IsFault (head_outcome l (tree_at s b) (TName r)) x = rw (← k.lookups, ← k.stored.trees b h.node, ← e, ← k.stored.trees d j.node) f in
+    fault_as _ _ x (name_without l g a (tree_at s b) r (y ∙ ap (λ q. Ok (tree_option t q)) n)) z
+
 -- between tuple types
 pub pairs_follow : {s t : Stored} {P Q : Sort → Ref → Type 0} {l m : Lookups} (f g : Context) (n a x b1 a1 b2 a2 : ℕ) → Keeps s P l t Q m → f.items ≡ g.items → 2 ≤ n
     → IsKnownCoercion s P g a b1 a1 → IsKnownCoercion s P g a b2 a2 → Gives t Q OfTerm (first_part n (tree_at s a)) x

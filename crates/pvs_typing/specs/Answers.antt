@@ -1,18 +1,20 @@
 -- What an answer of the code gives of a definition's.
-use Rattle.std.specs.Prelude.{◌≡◌, ℕ, Option, Some, None, Result, Err}
+use Rattle.std.specs.Prelude.{◌≡◌, ℕ, Option, Some, None, Result, Ok, Err, IfOk, IfErr, List, Vec}
 use Rattle.pvs_base.specs.declared.code.Code.{Code}
 use Rattle.pvs_base.specs.declared.code.Code.TheVariants as code
 use Rattle.pvs_terms.specs.Tree.{Tree, Ref, IsWithinLimits}
 use Rattle.pvs_terms.specs.declared.shape.Sort.{Sort}
 use Rattle.pvs_terms.specs.declared.shape.Sort.TheVariants.{OfType}
-use Rattle.pvs_typing.specs.Growth.{IsKnown}
+use Rattle.pvs_sig.specs.Lookups.{Lookups}
+use Rattle.pvs_typing.specs.Growth.{IsKnown, all_at}
+use Rattle.pvs_typing.specs.State.{State, IsTypeOf, AreTypesOf, Grows}
 use Rattle.pvs_terms.specs.Stored.{Stored, tree_at}
 use Rattle.pvs_terms.specs.declared.fault.MakeFault.{MakeFault}
 use Rattle.pvs_terms.specs.declared.fault.MakeFault.TheVariants as made
 use Rattle.pvs_subst.specs.declared.fault.SubstFault.{SubstFault}
 use Rattle.pvs_subst.specs.declared.fault.SubstFault.TheVariants as replaced
 use Rattle.pvs_types.specs.Outcome as outcome
-use Rattle.pvs_types.specs.Outcome.{Outcome}
+use Rattle.pvs_types.specs.Outcome.{Outcome, within_limits}
 use Rattle.pvs_typing.specs.declared.fault.TypeFault.{TypeFault}
 use Rattle.pvs_typing.specs.declared.fault.TypeFault.TheVariants.{Refused, Memory}
 
@@ -61,3 +63,41 @@ pub record Gives (s : Stored) (P : Sort → Ref → Type 0) (o : Sort) (t : Tree
   pub known : IsKnown s P o i
   pub tree : tree_at s i ≡ t
   pub fits : IsWithinLimits t
+
+abbrev pub IsOptionOf : State → ℕ → Option ℕ → Type 0
+IsOptionOf k theory o = IsOptionKnown k.stored (k.declares theory) o
+
+-- What a call answers that goes from one state to the next, in the terms of a theory. `f` is the definition, of what the
+-- store held and what is looked up. What is answered is known then, a code is the definition's, and the state grows in
+-- each case.
+
+-- a value, as it stands
+pub record Finds {A : Type 0} (k m : State) (theory : ℕ) (f : Stored → Lookups → Result A Code) (r : Result A TypeFault) : Type 0 where
+  pub ok : IfOk r (λ a. f k.stored (k.lookups theory) ≡ Ok a)
+  pub refused : IfErr r (IsRefusal (f k.stored (k.lookups theory)))
+  pub kept : Grows k m theory
+
+-- a type by number, a list of them, or one that there may be
+pub record FindsType (k m : State) (theory : ℕ) (f : Stored → Lookups → Result Tree Code) (r : Result ℕ TypeFault) : Type 0 where
+  pub ok : IfOk r (λ i. f k.stored (k.lookups theory) ≡ Ok (tree_at m.stored i))
+  pub known : IfOk r (IsTypeOf m theory)
+  pub refused : IfErr r (IsRefusal (f k.stored (k.lookups theory)))
+  pub kept : Grows k m theory
+
+pub record FindsTypes {Z : Type 0} (k m : State) (theory : ℕ) (f : Stored → Lookups → Result (List Tree) Code) (r : Result (Vec ℕ Z) TypeFault) : Type 0 where
+  pub ok : IfOk r (λ v. f k.stored (k.lookups theory) ≡ Ok (all_at m.stored v.items))
+  pub known : IfOk r (λ v. AreTypesOf m theory v.items)
+  pub refused : IfErr r (IsRefusal (f k.stored (k.lookups theory)))
+  pub kept : Grows k m theory
+
+pub record FindsOption (k m : State) (theory : ℕ) (f : Stored → Lookups → Result (Option Tree) Code) (r : Result (Option ℕ) TypeFault) : Type 0 where
+  pub ok : IfOk r (λ o. f k.stored (k.lookups theory) ≡ Ok (tree_option m.stored o))
+  pub known : IfOk r (IsOptionOf m theory)
+  pub refused : IfErr r (IsRefusal (f k.stored (k.lookups theory)))
+  pub kept : Grows k m theory
+
+-- a tree of this sort, where it is within the limits
+pub record Makes (k m : State) (theory : ℕ) (o : Sort) (f : Stored → Tree) (r : Result ℕ TypeFault) : Type 0 where
+  pub ok : IfOk r (Gives m.stored (m.declares theory) o (f k.stored))
+  pub refused : IfErr r (IsFault (within_limits (f k.stored)))
+  pub kept : Grows k m theory

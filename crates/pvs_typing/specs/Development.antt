@@ -2,10 +2,12 @@
 use Rattle.std.specs.Prelude.{false, Option, Some, None}
 use Rattle.pvs_terms.specs.Tree.{Text, Ref}
 use Rattle.pvs_terms.specs.declared.shape.Sort.{Sort}
+use Rattle.pvs_terms.specs.Stored.{Stored, text_at}
 use Rattle.pvs_sig.specs.Signature.{Signature}
 use Rattle.pvs_sig.specs.Development.{Development, theory_named, IsDeclared}
 use Rattle.pvs_sig.specs.Lookups.{Lookups}
 use Rattle.pvs_sig.specs.LookupsOf.{lookups_of}
+use Rattle.pvs_typing.specs.State.{State}
 
 -- where the theory does not stand
 abbrev pub no_lookups : Lookups
@@ -31,3 +33,11 @@ IsDeclaredBy d (Some s) o r = IsDeclared d s o r
 
 abbrev pub IsDeclaredFrom : Development → Text → Sort → Ref → Type 0
 IsDeclaredFrom d th o r = IsDeclaredBy d (theory_named d th) o r
+
+-- what contracts of typing see of it, with this store
+abbrev pub state_of : Stored → Development → State
+state_of s d = record {
+  stored = s;
+  declares = λ n. IsDeclaredFrom d (text_at s n);
+  lookups = λ n. lookups_from d (text_at s n);
+}

@@ -1,4 +1,5 @@
 pub mod Growth
+pub mod State
 pub mod Development
 pub mod Answers
 pub mod Above

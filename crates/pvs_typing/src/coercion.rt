@@ -1,15 +1,13 @@
 //! Under which conditions a term of one type is of another.
 
-ghost use Rattle.std.specs.Prelude.{◌≡◌, IfOk, IfErr, OnOk};
-ghost use Rattle.pvs_terms.specs.declared.shape.Sort.TheVariants.{OfType, OfTerm};
+ghost use Rattle.std.specs.Prelude.{◌≡◌, OnOk};
 ghost use Rattle.pvs_terms.specs.Stored.{IsName, tree_at};
 ghost use Rattle.pvs_subst.specs.Contexts.{context_at};
 ghost use Rattle.pvs_sig.specs.Lookups.{IsOrdered};
 ghost use Rattle.pvs_types.specs.Coerce.{coerce};
-ghost use Rattle.pvs_typing.specs.Growth.{IsKnown, IsKnownContext, Keeps};
-ghost use Rattle.pvs_typing.specs.Answers.{IsFault};
-ghost use Rattle.pvs_typing.specs.Owed.{AreKnownConditions, Judges, Owes, conditions_at};
 ghost use Rattle.pvs_typing.specs.code.Tasks.{conditions_after, tasks_after};
+ghost use Rattle.pvs_typing.specs.State.{IsTypeOf, IsTermOf, IsContextOf, AreConditionsOf};
+ghost use Rattle.pvs_typing.specs.Judging.{Coerces, JudgesType};
 
 use crate::contexts::copy_context;
 use crate::fault::TypeFault;
@@ -57,17 +55,14 @@ pub(crate) fn coerce_of<T: Theories>(
     to: Id,
     conditions: &mut Vec<Condition>,
 ) -> Result<(), TypeFault>
-    requires theory { IsName (T.stored theories.old) theory }
-    requires context { IsKnownContext (T.stored theories.old) (T.declares theories.old theory) g.now.items }
-    requires term { IsKnown (T.stored theories.old) (T.declares theories.old theory) OfTerm term }
-    requires from { IsKnown (T.stored theories.old) (T.declares theories.old theory) OfType from }
-    requires to { IsKnown (T.stored theories.old) (T.declares theories.old theory) OfType to }
-    requires conditions { AreKnownConditions (T.stored theories.old) (T.declares theories.old theory) conditions.old.items }
-    requires ordered { IsOrdered (T.lookups theories.old theory) }
-    ensures ok { IfOk result (λ _. Owes (T.stored theories.new) (conditions_at (T.stored theories.old) conditions.old.items) (coerce (T.lookups theories.old theory) (context_at (T.stored theories.old) g.now.items) (tree_at (T.stored theories.old) term) (tree_at (T.stored theories.old) from) (tree_at (T.stored theories.old) to)) tt conditions.new.items) }
-    ensures known { IfOk result (λ _. AreKnownConditions (T.stored theories.new) (T.declares theories.new theory) conditions.new.items) }
-    ensures refused { IfErr result (IsFault (coerce (T.lookups theories.old theory) (context_at (T.stored theories.old) g.now.items) (tree_at (T.stored theories.old) term) (tree_at (T.stored theories.old) from) (tree_at (T.stored theories.old) to))) }
-    ensures kept { Keeps (T.stored theories.old) (T.declares theories.old theory) (T.lookups theories.old theory) (T.stored theories.new) (T.declares theories.new theory) (T.lookups theories.new theory) }
+    requires theory { IsName (T.state theories.old).stored theory }
+    requires context { IsContextOf (T.state theories.old) theory g.now.items }
+    requires term { IsTermOf (T.state theories.old) theory term }
+    requires from { IsTypeOf (T.state theories.old) theory from }
+    requires to { IsTypeOf (T.state theories.old) theory to }
+    requires conditions { AreConditionsOf (T.state theories.old) theory conditions.old.items }
+    requires ordered { IsOrdered ((T.state theories.old).lookups theory) }
+    ensures { Coerces (T.state theories.old) (T.state theories.new) theory conditions.old.items conditions.new.items (λ s l. coerce l (context_at s g.now.items) (tree_at s term) (tree_at s from) (tree_at s to)) result }
 {
     let alloc = theories.store().allocator();
     let context = copy_context(alloc, g)?;
@@ -98,17 +93,13 @@ pub fn coerce<T: Theories>(
     from: Id,
     to: Id,
 ) -> Result<Judged, TypeFault>
-    requires theory { IsName (T.stored theories.old) theory }
-    requires context { IsKnownContext (T.stored theories.old) (T.declares theories.old theory) g.now.items }
-    requires term { IsKnown (T.stored theories.old) (T.declares theories.old theory) OfTerm term }
-    requires from { IsKnown (T.stored theories.old) (T.declares theories.old theory) OfType from }
-    requires to { IsKnown (T.stored theories.old) (T.declares theories.old theory) OfType to }
-    requires ordered { IsOrdered (T.lookups theories.old theory) }
-    ensures ok { IfOk result (λ j. Judges (T.stored theories.new) (coerce (T.lookups theories.old theory) (context_at (T.stored theories.old) g.now.items) (tree_at (T.stored theories.old) term) (tree_at (T.stored theories.old) from) (tree_at (T.stored theories.old) to)) tt j.conditions.items j.uses.items) }
-    ensures ty { IfOk result (λ j. j.ty ≡ to) }
-    ensures known { IfOk result (λ j. AreKnownConditions (T.stored theories.new) (T.declares theories.new theory) j.conditions.items) }
-    ensures refused { IfErr result (IsFault (coerce (T.lookups theories.old theory) (context_at (T.stored theories.old) g.now.items) (tree_at (T.stored theories.old) term) (tree_at (T.stored theories.old) from) (tree_at (T.stored theories.old) to))) }
-    ensures kept { Keeps (T.stored theories.old) (T.declares theories.old theory) (T.lookups theories.old theory) (T.stored theories.new) (T.declares theories.new theory) (T.lookups theories.new theory) }
+    requires theory { IsName (T.state theories.old).stored theory }
+    requires context { IsContextOf (T.state theories.old) theory g.now.items }
+    requires term { IsTermOf (T.state theories.old) theory term }
+    requires from { IsTypeOf (T.state theories.old) theory from }
+    requires to { IsTypeOf (T.state theories.old) theory to }
+    requires ordered { IsOrdered ((T.state theories.old).lookups theory) }
+    ensures { JudgesType (T.state theories.old) (T.state theories.new) theory to (λ s l. coerce l (context_at s g.now.items) (tree_at s term) (tree_at s from) (tree_at s to)) result }
 {
     let alloc = theories.store().allocator();
     let mut conditions = Vec::new(alloc);

@@ -4,7 +4,7 @@ ghost use Rattle.std.specs.Prelude.{ℕ};
 ghost use Rattle.pvs_terms.specs.Stored.{text_at};
 ghost use Rattle.pvs_sig.specs.Lookups.{IsOrdered};
 ghost use Rattle.pvs_instantiate.specs.InstancesView.{development};
-ghost use Rattle.pvs_typing.specs.Development.{lookups_from, IsDeclaredFrom};
+ghost use Rattle.pvs_typing.specs.Development.{lookups_from, state_of};
 
 use crate::theories::Theories;
 use pvs_cache::Judgements;
@@ -24,11 +24,7 @@ pub fn development_laws<J: Judgements>(instances: &Instances<J>)
 /// The theories that stand. What is looked up in the terms of one is what its references are in the
 /// development, and what is declared there is what its trees may mention.
 impl<J: Judgements> Theories for Instances<J> {
-    ghost stored = { λ v. v.store };
-
-    ghost lookups = { λ v n. lookups_from (development v) (text_at v.store n) };
-
-    ghost declares = { λ v n. IsDeclaredFrom (development v) (text_at v.store n) };
+    ghost state = { λ v. state_of v.store (development v) };
 
     fn store(&self) -> &Store {
         self.store()

@@ -1,13 +1,11 @@
 //! The forms of types.
 
-ghost use Rattle.std.specs.Prelude.{◌≡◌, ℕ, Ok, IfOk, IfErr};
-ghost use Rattle.pvs_terms.specs.declared.shape.Sort.TheVariants.{OfType};
 ghost use Rattle.pvs_terms.specs.Stored.{IsName, tree_at};
 ghost use Rattle.pvs_sig.specs.Lookups.{IsOrdered};
 ghost use Rattle.pvs_types.specs.Forms.{head, up};
 ghost use Rattle.pvs_typing.specs.Above.{next_above};
-ghost use Rattle.pvs_typing.specs.Growth.{AreKnown, IsKnown, Keeps, all_at};
-ghost use Rattle.pvs_typing.specs.Answers.{IsRefusal, IsOptionKnown, tree_option};
+ghost use Rattle.pvs_typing.specs.Answers.{FindsOption, FindsType, FindsTypes};
+ghost use Rattle.pvs_typing.specs.State.{IsTypeOf};
 
 use crate::fault::TypeFault;
 use crate::theories::Theories;
@@ -20,12 +18,9 @@ pub(crate) fn next_above<T: Theories>(
     theory: Name,
     ty: Id,
 ) -> Result<Option<Id>, TypeFault>
-    requires theory { IsName (T.stored theories.old) theory }
-    requires ty { IsKnown (T.stored theories.old) (T.declares theories.old theory) OfType ty }
-    ensures ok { IfOk result (λ o. next_above (T.lookups theories.old theory) (tree_at (T.stored theories.old) ty) ≡ Ok (tree_option (T.stored theories.new) o)) }
-    ensures known { IfOk result (IsOptionKnown (T.stored theories.new) (T.declares theories.new theory)) }
-    ensures refused { IfErr result (IsRefusal (next_above (T.lookups theories.old theory) (tree_at (T.stored theories.old) ty))) }
-    ensures kept { Keeps (T.stored theories.old) (T.declares theories.old theory) (T.lookups theories.old theory) (T.stored theories.new) (T.declares theories.new theory) (T.lookups theories.new theory) }
+    requires theory { IsName (T.state theories.old).stored theory }
+    requires ty { IsTypeOf (T.state theories.old) theory ty }
+    ensures { FindsOption (T.state theories.old) (T.state theories.new) theory (λ s l. next_above l (tree_at s ty)) result }
 {
     match theories.store().view(ty) {
         Node::TSub(a, _) => Ok(Some(a)),
@@ -40,13 +35,10 @@ pub(crate) fn next_above<T: Theories>(
 /// The head of a type: neither a defined name nor a predicate subtype.
 #[tactic(auto, using(crate::proofs::FormsOver::head_itself, crate::proofs::FormsOver::next_smaller, crate::proofs::GrowthLaws::keeps_none))]
 pub(crate) fn head_of<T: Theories>(theories: &mut T, theory: Name, ty: Id) -> Result<Id, TypeFault>
-    requires theory { IsName (T.stored theories.old) theory }
-    requires ty { IsKnown (T.stored theories.old) (T.declares theories.old theory) OfType ty }
-    requires ordered { IsOrdered (T.lookups theories.old theory) }
-    ensures ok { IfOk result (λ i. head (T.lookups theories.old theory) (tree_at (T.stored theories.old) ty) ≡ Ok (tree_at (T.stored theories.new) i)) }
-    ensures known { IfOk result (IsKnown (T.stored theories.new) (T.declares theories.new theory) OfType) }
-    ensures refused { IfErr result (IsRefusal (head (T.lookups theories.old theory) (tree_at (T.stored theories.old) ty))) }
-    ensures kept { Keeps (T.stored theories.old) (T.declares theories.old theory) (T.lookups theories.old theory) (T.stored theories.new) (T.declares theories.new theory) (T.lookups theories.new theory) }
+    requires theory { IsName (T.state theories.old).stored theory }
+    requires ty { IsTypeOf (T.state theories.old) theory ty }
+    requires ordered { IsOrdered ((T.state theories.old).lookups theory) }
+    ensures { FindsType (T.state theories.old) (T.state theories.new) theory (λ s l. head l (tree_at s ty)) result }
 {
     let mut form = ty;
     loop {
@@ -65,13 +57,10 @@ pub(crate) fn up_of<T: Theories>(
     theory: Name,
     ty: Id,
 ) -> Result<Vec<Id>, TypeFault>
-    requires theory { IsName (T.stored theories.old) theory }
-    requires ty { IsKnown (T.stored theories.old) (T.declares theories.old theory) OfType ty }
-    requires ordered { IsOrdered (T.lookups theories.old theory) }
-    ensures ok { IfOk result (λ v. up (T.lookups theories.old theory) (tree_at (T.stored theories.old) ty) ≡ Ok (all_at (T.stored theories.new) v.items)) }
-    ensures known { IfOk result (λ v. AreKnown (T.stored theories.new) (T.declares theories.new theory) OfType v.items) }
-    ensures refused { IfErr result (IsRefusal (up (T.lookups theories.old theory) (tree_at (T.stored theories.old) ty))) }
-    ensures kept { Keeps (T.stored theories.old) (T.declares theories.old theory) (T.lookups theories.old theory) (T.stored theories.new) (T.declares theories.new theory) (T.lookups theories.new theory) }
+    requires theory { IsName (T.state theories.old).stored theory }
+    requires ty { IsTypeOf (T.state theories.old) theory ty }
+    requires ordered { IsOrdered ((T.state theories.old).lookups theory) }
+    ensures { FindsTypes (T.state theories.old) (T.state theories.new) theory (λ s l. up l (tree_at s ty)) result }
 {
     let alloc = theories.store().allocator();
     let mut types = Vec::new(alloc);
@@ -96,13 +85,10 @@ pub fn head<T: Theories>(
     _context: &Context,
     ty: Id,
 ) -> Result<Id, TypeFault>
-    requires theory { IsName (T.stored theories.old) theory }
-    requires ty { IsKnown (T.stored theories.old) (T.declares theories.old theory) OfType ty }
-    requires ordered { IsOrdered (T.lookups theories.old theory) }
-    ensures ok { IfOk result (λ i. head (T.lookups theories.old theory) (tree_at (T.stored theories.old) ty) ≡ Ok (tree_at (T.stored theories.new) i)) }
-    ensures known { IfOk result (IsKnown (T.stored theories.new) (T.declares theories.new theory) OfType) }
-    ensures refused { IfErr result (IsRefusal (head (T.lookups theories.old theory) (tree_at (T.stored theories.old) ty))) }
-    ensures kept { Keeps (T.stored theories.old) (T.declares theories.old theory) (T.lookups theories.old theory) (T.stored theories.new) (T.declares theories.new theory) (T.lookups theories.new theory) }
+    requires theory { IsName (T.state theories.old).stored theory }
+    requires ty { IsTypeOf (T.state theories.old) theory ty }
+    requires ordered { IsOrdered ((T.state theories.old).lookups theory) }
+    ensures { FindsType (T.state theories.old) (T.state theories.new) theory (λ s l. head l (tree_at s ty)) result }
 {
     let found = head_of(theories, theory, ty)?;
     Ok(found)
@@ -117,13 +103,10 @@ pub fn up<T: Theories>(
     _context: &Context,
     ty: Id,
 ) -> Result<Vec<Id>, TypeFault>
-    requires theory { IsName (T.stored theories.old) theory }
-    requires ty { IsKnown (T.stored theories.old) (T.declares theories.old theory) OfType ty }
-    requires ordered { IsOrdered (T.lookups theories.old theory) }
-    ensures ok { IfOk result (λ v. up (T.lookups theories.old theory) (tree_at (T.stored theories.old) ty) ≡ Ok (all_at (T.stored theories.new) v.items)) }
-    ensures known { IfOk result (λ v. AreKnown (T.stored theories.new) (T.declares theories.new theory) OfType v.items) }
-    ensures refused { IfErr result (IsRefusal (up (T.lookups theories.old theory) (tree_at (T.stored theories.old) ty))) }
-    ensures kept { Keeps (T.stored theories.old) (T.declares theories.old theory) (T.lookups theories.old theory) (T.stored theories.new) (T.declares theories.new theory) (T.lookups theories.new theory) }
+    requires theory { IsName (T.state theories.old).stored theory }
+    requires ty { IsTypeOf (T.state theories.old) theory ty }
+    requires ordered { IsOrdered ((T.state theories.old).lookups theory) }
+    ensures { FindsTypes (T.state theories.old) (T.state theories.new) theory (λ s l. up l (tree_at s ty)) result }
 {
     let found = up_of(theories, theory, ty)?;
     Ok(found)

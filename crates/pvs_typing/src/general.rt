@@ -1,14 +1,14 @@
 //! The most general form of a type.
 
-ghost use Rattle.std.specs.Prelude.{◌≡◌, ◌<◌, ◌+◌, Ok, IfOk, IfErr, OnOk};
-ghost use Rattle.pvs_terms.specs.declared.shape.Sort.TheVariants.{OfType};
+ghost use Rattle.std.specs.Prelude.{◌≡◌, Ok, OnOk};
 ghost use Rattle.pvs_terms.specs.Stored.{IsNode, IsName, PartsIn, node_tree, tree_at};
 ghost use Rattle.pvs_terms.specs.Sorts.{HasSorts, IsType};
 ghost use Rattle.pvs_sig.specs.Lookups.{IsOrdered};
-ghost use Rattle.pvs_types.specs.Forms.{mentions, most, small_tree};
-ghost use Rattle.pvs_typing.specs.Growth.{EachName, IsKnown, Keeps};
-ghost use Rattle.pvs_typing.specs.Answers.{Gives, IsRefusal};
-ghost use Rattle.pvs_typing.specs.code.Frames.{Around, AreKnownFrames, Enters, IsKnownFrame, down_work, frame_result, frame_work, frames_after, frames_result, frames_work};
+ghost use Rattle.pvs_types.specs.Forms.{mentions, most};
+ghost use Rattle.pvs_typing.specs.Growth.{EachName};
+ghost use Rattle.pvs_typing.specs.Answers.{FindsType};
+ghost use Rattle.pvs_typing.specs.code.Frames.{AreFramesOf, IsFrameOf, MakesForm, StepsInto, Widens, down_work, frame_result, frame_work, frames_after};
+ghost use Rattle.pvs_typing.specs.State.{IsTypeOf};
 
 use crate::fault::TypeFault;
 use crate::forms::next_above;
@@ -42,14 +42,12 @@ pub(crate) struct Inside {
 
 /// The number of a node that is a type, whose parts are known.
 fn make_type<T: Theories>(theories: &mut T, _theory: Name, node: Node) -> Result<Id, TypeFault>
-    requires theory { IsName (T.stored theories.old) _theory }
-    requires parts { PartsIn (T.stored theories.old) node }
-    requires sorted { HasSorts (node_tree (T.stored theories.old) node) }
-    requires ty { IsType (node_tree (T.stored theories.old) node) }
-    requires names { EachName (T.declares theories.old _theory) (node_tree (T.stored theories.old) node) }
-    ensures ok { IfOk result (Gives (T.stored theories.new) (T.declares theories.new _theory) OfType (node_tree (T.stored theories.old) node)) }
-    ensures refused { IfErr result (IsRefusal (small_tree (node_tree (T.stored theories.old) node))) }
-    ensures kept { Keeps (T.stored theories.old) (T.declares theories.old _theory) (T.lookups theories.old _theory) (T.stored theories.new) (T.declares theories.new _theory) (T.lookups theories.new _theory) }
+    requires theory { IsName (T.state theories.old).stored _theory }
+    requires parts { PartsIn (T.state theories.old).stored node }
+    requires sorted { HasSorts (node_tree (T.state theories.old).stored node) }
+    requires ty { IsType (node_tree (T.state theories.old).stored node) }
+    requires names { EachName ((T.state theories.old).declares _theory) (node_tree (T.state theories.old).stored node) }
+    ensures { MakesForm (T.state theories.old) (T.state theories.new) _theory (λ s. node_tree s node) result }
 {
     let made = theories.make(node)?;
     Ok(made)
@@ -57,12 +55,10 @@ fn make_type<T: Theories>(theories: &mut T, _theory: Name, node: Node) -> Result
 
 /// A step into a type.
 fn enter<T: Theories>(theories: &mut T, theory: Name, ty: Id) -> Result<Inside, TypeFault>
-    requires theory { IsName (T.stored theories.old) theory }
-    requires ty { IsKnown (T.stored theories.old) (T.declares theories.old theory) OfType ty }
-    requires ordered { IsOrdered (T.lookups theories.old theory) }
-    ensures ok { IfOk result (Enters (T.lookups theories.old theory) (T.stored theories.new) (T.declares theories.new theory) (tree_at (T.stored theories.old) ty)) }
-    ensures refused { IfErr result (IsRefusal (most (T.lookups theories.old theory) (tree_at (T.stored theories.old) ty))) }
-    ensures kept { Keeps (T.stored theories.old) (T.declares theories.old theory) (T.lookups theories.old theory) (T.stored theories.new) (T.declares theories.new theory) (T.lookups theories.new theory) }
+    requires theory { IsName (T.state theories.old).stored theory }
+    requires ty { IsTypeOf (T.state theories.old) theory ty }
+    requires ordered { IsOrdered ((T.state theories.old).lookups theory) }
+    ensures { StepsInto (T.state theories.old) (T.state theories.new) theory ty result }
 {
     match known_node(theories, theory, ty) {
         Node::TFun(domain, range) => Ok(Inside {
@@ -100,14 +96,11 @@ fn descend<T: Theories>(
     frames: &mut Vec<Frame>,
     ty: Id,
 ) -> Result<Id, TypeFault>
-    requires theory { IsName (T.stored theories.old) theory }
-    requires ty { IsKnown (T.stored theories.old) (T.declares theories.old theory) OfType ty }
-    requires frames { AreKnownFrames (T.stored theories.old) (T.declares theories.old theory) frames.old.items }
-    requires ordered { IsOrdered (T.lookups theories.old theory) }
-    ensures ok { IfOk result (Around (T.lookups theories.old theory) (T.stored theories.new) (T.declares theories.new theory) (frames_result (T.lookups theories.old theory) (T.stored theories.old) frames.old.items (most (T.lookups theories.old theory) (tree_at (T.stored theories.old) ty))) frames.new.items) }
-    ensures less { OnOk result (frames_work (T.lookups theories.old theory) (T.stored theories.new) frames.new.items < frames_work (T.lookups theories.old theory) (T.stored theories.old) frames.old.items + down_work (T.lookups theories.old theory) (tree_at (T.stored theories.old) ty)) }
-    ensures refused { IfErr result (IsRefusal (frames_result (T.lookups theories.old theory) (T.stored theories.old) frames.old.items (most (T.lookups theories.old theory) (tree_at (T.stored theories.old) ty)))) }
-    ensures kept { Keeps (T.stored theories.old) (T.declares theories.old theory) (T.lookups theories.old theory) (T.stored theories.new) (T.declares theories.new theory) (T.lookups theories.new theory) }
+    requires theory { IsName (T.state theories.old).stored theory }
+    requires ty { IsTypeOf (T.state theories.old) theory ty }
+    requires frames { AreFramesOf (T.state theories.old) theory frames.old.items }
+    requires ordered { IsOrdered ((T.state theories.old).lookups theory) }
+    ensures { Widens (T.state theories.old) (T.state theories.new) theory frames.old.items frames.new.items (λ s l. most l (tree_at s ty)) (λ s l. down_work l (tree_at s ty)) result }
 {
     let mut inner = ty;
     loop {
@@ -128,15 +121,12 @@ fn leave<T: Theories>(
     frame: Frame,
     made: Id,
 ) -> Result<Id, TypeFault>
-    requires theory { IsName (T.stored theories.old) theory }
-    requires frame { IsKnownFrame (T.stored theories.old) (T.declares theories.old theory) frame }
-    requires frames { AreKnownFrames (T.stored theories.old) (T.declares theories.old theory) frames.old.items }
-    requires made { IsKnown (T.stored theories.old) (T.declares theories.old theory) OfType made }
-    requires ordered { IsOrdered (T.lookups theories.old theory) }
-    ensures ok { IfOk result (Around (T.lookups theories.old theory) (T.stored theories.new) (T.declares theories.new theory) (frames_result (T.lookups theories.old theory) (T.stored theories.old) frames.old.items (frame_result (T.lookups theories.old theory) (T.stored theories.old) frame (Ok (tree_at (T.stored theories.old) made)))) frames.new.items) }
-    ensures less { OnOk result (frames_work (T.lookups theories.old theory) (T.stored theories.new) frames.new.items < frames_work (T.lookups theories.old theory) (T.stored theories.old) frames.old.items + frame_work (T.lookups theories.old theory) (T.stored theories.old) frame) }
-    ensures refused { IfErr result (IsRefusal (frames_result (T.lookups theories.old theory) (T.stored theories.old) frames.old.items (frame_result (T.lookups theories.old theory) (T.stored theories.old) frame (Ok (tree_at (T.stored theories.old) made))))) }
-    ensures kept { Keeps (T.stored theories.old) (T.declares theories.old theory) (T.lookups theories.old theory) (T.stored theories.new) (T.declares theories.new theory) (T.lookups theories.new theory) }
+    requires theory { IsName (T.state theories.old).stored theory }
+    requires frame { IsFrameOf (T.state theories.old) theory frame }
+    requires frames { AreFramesOf (T.state theories.old) theory frames.old.items }
+    requires made { IsTypeOf (T.state theories.old) theory made }
+    requires ordered { IsOrdered ((T.state theories.old).lookups theory) }
+    ensures { Widens (T.state theories.old) (T.state theories.new) theory frames.old.items frames.new.items (λ s l. frame_result l s frame (Ok (tree_at s made))) (λ s l. frame_work l s frame) result }
 {
     match frame {
         Frame::Range(domain) => {
@@ -161,8 +151,8 @@ fn leave<T: Theories>(
 
 /// Whether the variable that is bound around a tree occurs in it.
 fn is_mentioned<T: Theories>(theories: &T, id: Id) -> bool
-    requires { IsNode (T.stored theories.now) id }
-    ensures { result ≡ mentions 0 (tree_at (T.stored theories.now) id) }
+    requires { IsNode (T.state theories.now).stored id }
+    ensures { result ≡ mentions 0 (tree_at (T.state theories.now).stored id) }
 {
     let _depth = theories.store().depth(id);
     mentions(theories.store(), 0, id)
@@ -170,13 +160,10 @@ fn is_mentioned<T: Theories>(theories: &T, id: Id) -> bool
 
 /// The most general form of a type.
 pub(crate) fn most_of<T: Theories>(theories: &mut T, theory: Name, ty: Id) -> Result<Id, TypeFault>
-    requires theory { IsName (T.stored theories.old) theory }
-    requires ty { IsKnown (T.stored theories.old) (T.declares theories.old theory) OfType ty }
-    requires ordered { IsOrdered (T.lookups theories.old theory) }
-    ensures ok { IfOk result (λ i. most (T.lookups theories.old theory) (tree_at (T.stored theories.old) ty) ≡ Ok (tree_at (T.stored theories.new) i)) }
-    ensures known { IfOk result (IsKnown (T.stored theories.new) (T.declares theories.new theory) OfType) }
-    ensures refused { IfErr result (IsRefusal (most (T.lookups theories.old theory) (tree_at (T.stored theories.old) ty))) }
-    ensures kept { Keeps (T.stored theories.old) (T.declares theories.old theory) (T.lookups theories.old theory) (T.stored theories.new) (T.declares theories.new theory) (T.lookups theories.new theory) }
+    requires theory { IsName (T.state theories.old).stored theory }
+    requires ty { IsTypeOf (T.state theories.old) theory ty }
+    requires ordered { IsOrdered ((T.state theories.old).lookups theory) }
+    ensures { FindsType (T.state theories.old) (T.state theories.new) theory (λ s l. most l (tree_at s ty)) result }
 {
     let alloc = theories.store().allocator();
     let mut frames = Vec::new(alloc);
@@ -198,13 +185,10 @@ pub fn most<T: Theories>(
     _context: &Context,
     ty: Id,
 ) -> Result<Id, TypeFault>
-    requires theory { IsName (T.stored theories.old) theory }
-    requires ty { IsKnown (T.stored theories.old) (T.declares theories.old theory) OfType ty }
-    requires ordered { IsOrdered (T.lookups theories.old theory) }
-    ensures ok { IfOk result (λ i. most (T.lookups theories.old theory) (tree_at (T.stored theories.old) ty) ≡ Ok (tree_at (T.stored theories.new) i)) }
-    ensures known { IfOk result (IsKnown (T.stored theories.new) (T.declares theories.new theory) OfType) }
-    ensures refused { IfErr result (IsRefusal (most (T.lookups theories.old theory) (tree_at (T.stored theories.old) ty))) }
-    ensures kept { Keeps (T.stored theories.old) (T.declares theories.old theory) (T.lookups theories.old theory) (T.stored theories.new) (T.declares theories.new theory) (T.lookups theories.new theory) }
+    requires theory { IsName (T.state theories.old).stored theory }
+    requires ty { IsTypeOf (T.state theories.old) theory ty }
+    requires ordered { IsOrdered ((T.state theories.old).lookups theory) }
+    ensures { FindsType (T.state theories.old) (T.state theories.new) theory (λ s l. most l (tree_at s ty)) result }
 {
     let found = most_of(theories, theory, ty)?;
     Ok(found)

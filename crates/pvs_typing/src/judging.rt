@@ -1,14 +1,11 @@
 //! The types of terms, and what makes types well formed.
 
-ghost use Rattle.std.specs.Prelude.{◌≡◌, IfOk, IfErr};
-ghost use Rattle.pvs_terms.specs.declared.shape.Sort.TheVariants.{OfType, OfTerm};
 ghost use Rattle.pvs_terms.specs.Stored.{IsName, tree_at};
 ghost use Rattle.pvs_subst.specs.Contexts.{context_at};
 ghost use Rattle.pvs_sig.specs.Lookups.{IsOrdered};
 ghost use Rattle.pvs_types.specs.Typing.{infer, check, well_formed};
-ghost use Rattle.pvs_typing.specs.Growth.{IsKnown, IsKnownContext, Keeps};
-ghost use Rattle.pvs_typing.specs.Answers.{IsFault};
-ghost use Rattle.pvs_typing.specs.Owed.{AreKnownConditions, AreRefs, Judges};
+ghost use Rattle.pvs_typing.specs.State.{IsTypeOf, IsTermOf, IsContextOf};
+ghost use Rattle.pvs_typing.specs.Judging.{JudgesTerm, JudgesType};
 
 use crate::fault::TypeFault;
 use crate::judged::Judged;
@@ -33,16 +30,11 @@ pub fn infer<T: Theories>(
     g: &Context,
     term: Id,
 ) -> Result<Judged, TypeFault>
-    requires theory { IsName (T.stored theories.old) theory }
-    requires context { IsKnownContext (T.stored theories.old) (T.declares theories.old theory) g.now.items }
-    requires term { IsKnown (T.stored theories.old) (T.declares theories.old theory) OfTerm term }
-    requires ordered { IsOrdered (T.lookups theories.old theory) }
-    ensures ok { IfOk result (λ j. Judges (T.stored theories.new) (infer (T.lookups theories.old theory) (context_at (T.stored theories.old) g.now.items) (tree_at (T.stored theories.old) term)) (tree_at (T.stored theories.new) j.ty) j.conditions.items j.uses.items) }
-    ensures known { IfOk result (λ j. IsKnown (T.stored theories.new) (T.declares theories.new theory) OfType j.ty) }
-    ensures conditions { IfOk result (λ j. AreKnownConditions (T.stored theories.new) (T.declares theories.new theory) j.conditions.items) }
-    ensures uses { IfOk result (λ j. AreRefs (T.stored theories.new) j.uses.items) }
-    ensures refused { IfErr result (IsFault (infer (T.lookups theories.old theory) (context_at (T.stored theories.old) g.now.items) (tree_at (T.stored theories.old) term))) }
-    ensures kept { Keeps (T.stored theories.old) (T.declares theories.old theory) (T.lookups theories.old theory) (T.stored theories.new) (T.declares theories.new theory) (T.lookups theories.new theory) }
+    requires theory { IsName (T.state theories.old).stored theory }
+    requires context { IsContextOf (T.state theories.old) theory g.now.items }
+    requires term { IsTermOf (T.state theories.old) theory term }
+    requires ordered { IsOrdered ((T.state theories.old).lookups theory) }
+    ensures { JudgesTerm (T.state theories.old) (T.state theories.new) theory (λ s l. infer l (context_at s g.now.items) (tree_at s term)) result }
 {
     let alloc = theories.store().allocator();
     let mut conditions = Vec::new(alloc);
@@ -67,17 +59,12 @@ pub fn check<T: Theories>(
     term: Id,
     ty: Id,
 ) -> Result<Judged, TypeFault>
-    requires theory { IsName (T.stored theories.old) theory }
-    requires context { IsKnownContext (T.stored theories.old) (T.declares theories.old theory) g.now.items }
-    requires term { IsKnown (T.stored theories.old) (T.declares theories.old theory) OfTerm term }
-    requires ty { IsKnown (T.stored theories.old) (T.declares theories.old theory) OfType ty }
-    requires ordered { IsOrdered (T.lookups theories.old theory) }
-    ensures ok { IfOk result (λ j. Judges (T.stored theories.new) (check (T.lookups theories.old theory) (context_at (T.stored theories.old) g.now.items) (tree_at (T.stored theories.old) term) (tree_at (T.stored theories.old) ty)) (tt) j.conditions.items j.uses.items) }
-    ensures ty { IfOk result (λ j. j.ty ≡ ty) }
-    ensures conditions { IfOk result (λ j. AreKnownConditions (T.stored theories.new) (T.declares theories.new theory) j.conditions.items) }
-    ensures uses { IfOk result (λ j. AreRefs (T.stored theories.new) j.uses.items) }
-    ensures refused { IfErr result (IsFault (check (T.lookups theories.old theory) (context_at (T.stored theories.old) g.now.items) (tree_at (T.stored theories.old) term) (tree_at (T.stored theories.old) ty))) }
-    ensures kept { Keeps (T.stored theories.old) (T.declares theories.old theory) (T.lookups theories.old theory) (T.stored theories.new) (T.declares theories.new theory) (T.lookups theories.new theory) }
+    requires theory { IsName (T.state theories.old).stored theory }
+    requires context { IsContextOf (T.state theories.old) theory g.now.items }
+    requires term { IsTermOf (T.state theories.old) theory term }
+    requires ty { IsTypeOf (T.state theories.old) theory ty }
+    requires ordered { IsOrdered ((T.state theories.old).lookups theory) }
+    ensures { JudgesType (T.state theories.old) (T.state theories.new) theory ty (λ s l. check l (context_at s g.now.items) (tree_at s term) (tree_at s ty)) result }
 {
     let alloc = theories.store().allocator();
     let mut conditions = Vec::new(alloc);
@@ -101,16 +88,11 @@ pub fn well_formed<T: Theories>(
     g: &Context,
     ty: Id,
 ) -> Result<Judged, TypeFault>
-    requires theory { IsName (T.stored theories.old) theory }
-    requires context { IsKnownContext (T.stored theories.old) (T.declares theories.old theory) g.now.items }
-    requires ty { IsKnown (T.stored theories.old) (T.declares theories.old theory) OfType ty }
-    requires ordered { IsOrdered (T.lookups theories.old theory) }
-    ensures ok { IfOk result (λ j. Judges (T.stored theories.new) (well_formed (T.lookups theories.old theory) (context_at (T.stored theories.old) g.now.items) (tree_at (T.stored theories.old) ty)) (tt) j.conditions.items j.uses.items) }
-    ensures ty { IfOk result (λ j. j.ty ≡ ty) }
-    ensures conditions { IfOk result (λ j. AreKnownConditions (T.stored theories.new) (T.declares theories.new theory) j.conditions.items) }
-    ensures uses { IfOk result (λ j. AreRefs (T.stored theories.new) j.uses.items) }
-    ensures refused { IfErr result (IsFault (well_formed (T.lookups theories.old theory) (context_at (T.stored theories.old) g.now.items) (tree_at (T.stored theories.old) ty))) }
-    ensures kept { Keeps (T.stored theories.old) (T.declares theories.old theory) (T.lookups theories.old theory) (T.stored theories.new) (T.declares theories.new theory) (T.lookups theories.new theory) }
+    requires theory { IsName (T.state theories.old).stored theory }
+    requires context { IsContextOf (T.state theories.old) theory g.now.items }
+    requires ty { IsTypeOf (T.state theories.old) theory ty }
+    requires ordered { IsOrdered ((T.state theories.old).lookups theory) }
+    ensures { JudgesType (T.state theories.old) (T.state theories.new) theory ty (λ s l. well_formed l (context_at s g.now.items) (tree_at s ty)) result }
 {
     let alloc = theories.store().allocator();
     let mut conditions = Vec::new(alloc);

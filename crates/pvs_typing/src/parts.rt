@@ -1,16 +1,16 @@
 //! Trees that coercion goes on with.
 
-ghost use Rattle.std.specs.Prelude.{◌≡◌, ℕ, ◌≤◌, IfOk, IfErr};
+ghost use Rattle.std.specs.Prelude.{◌≡◌, ◌≤◌, IfOk, IfErr};
 ghost use Rattle.pvs_terms.specs.Tree.{Var, App};
 ghost use Rattle.pvs_terms.specs.declared.shape.Sort.TheVariants.{OfType, OfTerm};
 ghost use Rattle.pvs_terms.specs.Stored.{IsNode, IsName, tree_at};
 ghost use Rattle.pvs_subst.specs.Replace.{put_in};
 ghost use Rattle.pvs_types.specs.Forms.{is_among};
-ghost use Rattle.pvs_types.specs.Outcome.{within_limits};
 ghost use Rattle.pvs_types.specs.Coerce.{lift_one, application, first_part, second_part};
-ghost use Rattle.pvs_typing.specs.Growth.{AreKnown, IsKnown, Keeps, all_at};
-ghost use Rattle.pvs_typing.specs.code.Tasks.{both_within};
-ghost use Rattle.pvs_typing.specs.Answers.{Gives, IsFault, IsMemory};
+ghost use Rattle.pvs_typing.specs.Growth.{all_at};
+ghost use Rattle.pvs_typing.specs.code.Tasks.{MakesBoth};
+ghost use Rattle.pvs_typing.specs.Answers.{Gives, IsMemory, Makes};
+ghost use Rattle.pvs_typing.specs.State.{IsTypeOf, IsTermOf, AreTypesOf, Grows};
 
 use crate::fault::TypeFault;
 use crate::nodes::{is_same, known_node};
@@ -19,9 +19,9 @@ use pvs_terms::{Id, Name, Node};
 
 /// Whether a type is among these.
 pub(crate) fn is_among<T: Theories>(theories: &T, theory: Name, ty: Id, types: &[Id]) -> bool
-    requires ty { IsNode (T.stored theories.now) ty }
-    requires types { AreKnown (T.stored theories.now) (T.declares theories.now theory) OfType types.now }
-    ensures { result ≡ is_among (tree_at (T.stored theories.now) ty) (all_at (T.stored theories.now) types.now) }
+    requires ty { IsNode (T.state theories.now).stored ty }
+    requires types { AreTypesOf (T.state theories.now) theory types.now }
+    ensures { result ≡ is_among (tree_at (T.state theories.now).stored ty) (all_at (T.state theories.now).stored types.now) }
 {
     for above in types {
         if is_same(theories, ty, *above) {
@@ -38,12 +38,10 @@ pub(crate) fn first_part<T: Theories>(
     components: u32,
     term: Id,
 ) -> Result<Id, TypeFault>
-    requires theory { IsName (T.stored theories.old) theory }
-    requires term { IsKnown (T.stored theories.old) (T.declares theories.old theory) OfTerm term }
+    requires theory { IsName (T.state theories.old).stored theory }
+    requires term { IsTermOf (T.state theories.old) theory term }
     requires components { 2 ≤ components }
-    ensures ok { IfOk result (Gives (T.stored theories.new) (T.declares theories.new theory) OfTerm (first_part components (tree_at (T.stored theories.old) term))) }
-    ensures refused { IfErr result (IsFault (within_limits (first_part components (tree_at (T.stored theories.old) term)))) }
-    ensures kept { Keeps (T.stored theories.old) (T.declares theories.old theory) (T.lookups theories.old theory) (T.stored theories.new) (T.declares theories.new theory) (T.lookups theories.new theory) }
+    ensures { Makes (T.state theories.old) (T.state theories.new) theory OfTerm (λ s. first_part components (tree_at s term)) result }
 {
     match known_node(theories, theory, term) {
         Node::Tup(_, first, _) => Ok(first),
@@ -61,12 +59,10 @@ pub(crate) fn second_part<T: Theories>(
     components: u32,
     term: Id,
 ) -> Result<Id, TypeFault>
-    requires theory { IsName (T.stored theories.old) theory }
-    requires term { IsKnown (T.stored theories.old) (T.declares theories.old theory) OfTerm term }
+    requires theory { IsName (T.state theories.old).stored theory }
+    requires term { IsTermOf (T.state theories.old) theory term }
     requires components { 2 ≤ components }
-    ensures ok { IfOk result (Gives (T.stored theories.new) (T.declares theories.new theory) OfTerm (second_part components (tree_at (T.stored theories.old) term))) }
-    ensures refused { IfErr result (IsFault (within_limits (second_part components (tree_at (T.stored theories.old) term)))) }
-    ensures kept { Keeps (T.stored theories.old) (T.declares theories.old theory) (T.lookups theories.old theory) (T.stored theories.new) (T.declares theories.new theory) (T.lookups theories.new theory) }
+    ensures { Makes (T.state theories.old) (T.state theories.new) theory OfTerm (λ s. second_part components (tree_at s term)) result }
 {
     match known_node(theories, theory, term) {
         Node::Tup(_, _, second) => Ok(second),
@@ -83,11 +79,9 @@ pub(crate) fn lift_type<T: Theories>(
     _theory: Name,
     id: Id,
 ) -> Result<Id, TypeFault>
-    requires theory { IsName (T.stored theories.old) _theory }
-    requires id { IsKnown (T.stored theories.old) (T.declares theories.old _theory) OfType id }
-    ensures ok { IfOk result (Gives (T.stored theories.new) (T.declares theories.new _theory) OfType (lift_one (tree_at (T.stored theories.old) id))) }
-    ensures refused { IfErr result (IsFault (within_limits (lift_one (tree_at (T.stored theories.old) id)))) }
-    ensures kept { Keeps (T.stored theories.old) (T.declares theories.old _theory) (T.lookups theories.old _theory) (T.stored theories.new) (T.declares theories.new _theory) (T.lookups theories.new _theory) }
+    requires theory { IsName (T.state theories.old).stored _theory }
+    requires id { IsTypeOf (T.state theories.old) _theory id }
+    ensures { Makes (T.state theories.old) (T.state theories.new) _theory OfType (λ s. lift_one (tree_at s id)) result }
 {
     let lifted = theories.lift(id, 1, 0)?;
     Ok(lifted)
@@ -100,13 +94,10 @@ pub(crate) fn lift_both<T: Theories>(
     first: Id,
     second: Id,
 ) -> Result<(Id, Id), TypeFault>
-    requires theory { IsName (T.stored theories.old) theory }
-    requires first { IsKnown (T.stored theories.old) (T.declares theories.old theory) OfType first }
-    requires second { IsKnown (T.stored theories.old) (T.declares theories.old theory) OfType second }
-    ensures first { IfOk result (λ p. Gives (T.stored theories.new) (T.declares theories.new theory) OfType (lift_one (tree_at (T.stored theories.old) first)) p.0) }
-    ensures second { IfOk result (λ p. Gives (T.stored theories.new) (T.declares theories.new theory) OfType (lift_one (tree_at (T.stored theories.old) second)) p.1) }
-    ensures refused { IfErr result (IsFault (both_within (lift_one (tree_at (T.stored theories.old) first)) (lift_one (tree_at (T.stored theories.old) second)))) }
-    ensures kept { Keeps (T.stored theories.old) (T.declares theories.old theory) (T.lookups theories.old theory) (T.stored theories.new) (T.declares theories.new theory) (T.lookups theories.new theory) }
+    requires theory { IsName (T.state theories.old).stored theory }
+    requires first { IsTypeOf (T.state theories.old) theory first }
+    requires second { IsTypeOf (T.state theories.old) theory second }
+    ensures { MakesBoth (T.state theories.old) (T.state theories.new) theory (λ s. lift_one (tree_at s first)) (λ s. lift_one (tree_at s second)) result }
 {
     let lifted_first = lift_type(theories, theory, first)?;
     let lifted_second = lift_type(theories, theory, second)?;
@@ -115,10 +106,10 @@ pub(crate) fn lift_both<T: Theories>(
 
 /// The variable of a new binder.
 pub(crate) fn new_variable<T: Theories>(theories: &mut T, _theory: Name) -> Result<Id, TypeFault>
-    requires theory { IsName (T.stored theories.old) _theory }
-    ensures ok { IfOk result (Gives (T.stored theories.new) (T.declares theories.new _theory) OfTerm (Var 0)) }
+    requires theory { IsName (T.state theories.old).stored _theory }
+    ensures ok { IfOk result (Gives (T.state theories.new).stored ((T.state theories.new).declares _theory) OfTerm (Var 0)) }
     ensures refused { IfErr result IsMemory }
-    ensures kept { Keeps (T.stored theories.old) (T.declares theories.old _theory) (T.lookups theories.old _theory) (T.stored theories.new) (T.declares theories.new _theory) (T.lookups theories.new _theory) }
+    ensures kept { Grows (T.state theories.old) (T.state theories.new) _theory }
 {
     let made = theories.make(Node::Var(0))?;
     Ok(made)
@@ -131,12 +122,10 @@ pub(crate) fn substitute<T: Theories>(
     body: Id,
     arg: Id,
 ) -> Result<Id, TypeFault>
-    requires theory { IsName (T.stored theories.old) _theory }
-    requires body { IsKnown (T.stored theories.old) (T.declares theories.old _theory) OfType body }
-    requires arg { IsKnown (T.stored theories.old) (T.declares theories.old _theory) OfTerm arg }
-    ensures ok { IfOk result (Gives (T.stored theories.new) (T.declares theories.new _theory) OfType (put_in (tree_at (T.stored theories.old) body) (tree_at (T.stored theories.old) arg))) }
-    ensures refused { IfErr result (IsFault (within_limits (put_in (tree_at (T.stored theories.old) body) (tree_at (T.stored theories.old) arg)))) }
-    ensures kept { Keeps (T.stored theories.old) (T.declares theories.old _theory) (T.lookups theories.old _theory) (T.stored theories.new) (T.declares theories.new _theory) (T.lookups theories.new _theory) }
+    requires theory { IsName (T.state theories.old).stored _theory }
+    requires body { IsTypeOf (T.state theories.old) _theory body }
+    requires arg { IsTermOf (T.state theories.old) _theory arg }
+    ensures { Makes (T.state theories.old) (T.state theories.new) _theory OfType (λ s. put_in (tree_at s body) (tree_at s arg)) result }
 {
     let made = theories.put_in(body, arg)?;
     Ok(made)
@@ -150,14 +139,11 @@ pub(crate) fn substitute_both<T: Theories>(
     second: Id,
     arg: Id,
 ) -> Result<(Id, Id), TypeFault>
-    requires theory { IsName (T.stored theories.old) theory }
-    requires first { IsKnown (T.stored theories.old) (T.declares theories.old theory) OfType first }
-    requires second { IsKnown (T.stored theories.old) (T.declares theories.old theory) OfType second }
-    requires arg { IsKnown (T.stored theories.old) (T.declares theories.old theory) OfTerm arg }
-    ensures first { IfOk result (λ p. Gives (T.stored theories.new) (T.declares theories.new theory) OfType (put_in (tree_at (T.stored theories.old) first) (tree_at (T.stored theories.old) arg)) p.0) }
-    ensures second { IfOk result (λ p. Gives (T.stored theories.new) (T.declares theories.new theory) OfType (put_in (tree_at (T.stored theories.old) second) (tree_at (T.stored theories.old) arg)) p.1) }
-    ensures refused { IfErr result (IsFault (both_within (put_in (tree_at (T.stored theories.old) first) (tree_at (T.stored theories.old) arg)) (put_in (tree_at (T.stored theories.old) second) (tree_at (T.stored theories.old) arg)))) }
-    ensures kept { Keeps (T.stored theories.old) (T.declares theories.old theory) (T.lookups theories.old theory) (T.stored theories.new) (T.declares theories.new theory) (T.lookups theories.new theory) }
+    requires theory { IsName (T.state theories.old).stored theory }
+    requires first { IsTypeOf (T.state theories.old) theory first }
+    requires second { IsTypeOf (T.state theories.old) theory second }
+    requires arg { IsTermOf (T.state theories.old) theory arg }
+    ensures { MakesBoth (T.state theories.old) (T.state theories.new) theory (λ s. put_in (tree_at s first) (tree_at s arg)) (λ s. put_in (tree_at s second) (tree_at s arg)) result }
 {
     let first_made = substitute(theories, theory, first, arg)?;
     let second_made = substitute(theories, theory, second, arg)?;
@@ -170,11 +156,9 @@ fn apply_to_variable<T: Theories>(
     _theory: Name,
     term: Id,
 ) -> Result<Id, TypeFault>
-    requires theory { IsName (T.stored theories.old) _theory }
-    requires term { IsKnown (T.stored theories.old) (T.declares theories.old _theory) OfTerm term }
-    ensures ok { IfOk result (Gives (T.stored theories.new) (T.declares theories.new _theory) OfTerm (App (lift_one (tree_at (T.stored theories.old) term)) (Var 0))) }
-    ensures refused { IfErr result (IsFault (within_limits (App (lift_one (tree_at (T.stored theories.old) term)) (Var 0)))) }
-    ensures kept { Keeps (T.stored theories.old) (T.declares theories.old _theory) (T.lookups theories.old _theory) (T.stored theories.new) (T.declares theories.new _theory) (T.lookups theories.new _theory) }
+    requires theory { IsName (T.state theories.old).stored _theory }
+    requires term { IsTermOf (T.state theories.old) _theory term }
+    ensures { Makes (T.state theories.old) (T.state theories.new) _theory OfTerm (λ s. App (lift_one (tree_at s term)) (Var 0)) result }
 {
     let function = theories.lift(term, 1, 0)?;
     let variable = theories.make(Node::Var(0))?;
@@ -190,12 +174,10 @@ pub(crate) fn application<T: Theories>(
     domain: Id,
     term: Id,
 ) -> Result<Id, TypeFault>
-    requires theory { IsName (T.stored theories.old) theory }
-    requires domain { IsKnown (T.stored theories.old) (T.declares theories.old theory) OfType domain }
-    requires term { IsKnown (T.stored theories.old) (T.declares theories.old theory) OfTerm term }
-    ensures ok { IfOk result (Gives (T.stored theories.new) (T.declares theories.new theory) OfTerm (application (tree_at (T.stored theories.old) domain) (tree_at (T.stored theories.old) term))) }
-    ensures refused { IfErr result (IsFault (within_limits (application (tree_at (T.stored theories.old) domain) (tree_at (T.stored theories.old) term)))) }
-    ensures kept { Keeps (T.stored theories.old) (T.declares theories.old theory) (T.lookups theories.old theory) (T.stored theories.new) (T.declares theories.new theory) (T.lookups theories.new theory) }
+    requires theory { IsName (T.state theories.old).stored theory }
+    requires domain { IsTypeOf (T.state theories.old) theory domain }
+    requires term { IsTermOf (T.state theories.old) theory term }
+    ensures { Makes (T.state theories.old) (T.state theories.new) theory OfTerm (λ s. application (tree_at s domain) (tree_at s term)) result }
 {
     if let Node::Lam(a, body) = known_node(theories, theory, term) {
         if is_same(theories, a, domain) {

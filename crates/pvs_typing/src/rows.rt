@@ -1,23 +1,22 @@
 //! The steps of the rows of typing that do not go into a part.
 
-ghost use Rattle.std.specs.Prelude.{true, length, ◌≡◌, ◌∷◌, [], ◌<◌, ◌≤◌, IfOk, IfErr, IfSome, IfNone, false};
+ghost use Rattle.std.specs.Prelude.{true, length, ◌≡◌, ◌∷◌, [], ◌<◌, ◌≤◌, IfSome, IfNone, false};
 ghost use Rattle.pvs_terms.specs.declared.shape.Sort.TheVariants.{OfType, OfTerm};
-ghost use Rattle.pvs_terms.specs.Tree.{TBool, TFun, TPair, Lam, True, If, Fst, IsWithinLimits};
+ghost use Rattle.pvs_terms.specs.Tree.{TBool, TFun, TPair, Lam, If, Fst, IsWithinLimits};
 ghost use Rattle.pvs_terms.specs.Stored.{HasParts, IsName, IsNode, IsRef, node_tree, ref_at, tree_at};
-ghost use Rattle.pvs_subst.specs.Replace.{put_in};
 ghost use Rattle.pvs_subst.specs.Contexts.{context_at};
 ghost use Rattle.pvs_sig.specs.Lookups.{IsOrdered};
 ghost use Rattle.pvs_types.specs.Coerce.{coerce, lift_one};
 ghost use Rattle.pvs_types.specs.Forms.{first_among};
-ghost use Rattle.pvs_types.specs.Outcome.{pure, within_limits};
+ghost use Rattle.pvs_types.specs.Outcome.{pure};
 ghost use Rattle.pvs_types.specs.Typing.{variable_infer, constant_infer, negation, is_forall};
-ghost use Rattle.pvs_typing.specs.Answers.{Gives, IsFault, IsOptionKnown, tree_option};
-ghost use Rattle.pvs_typing.specs.Growth.{AreKnown, EachName, IsKnown, IsKnownContext, IsKnownItem, Keeps, all_at};
-ghost use Rattle.pvs_typing.specs.Owed.{conditions_at};
-ghost use Rattle.pvs_typing.specs.Judging.{Answers, IsGiven};
+ghost use Rattle.pvs_typing.specs.Answers.{IsOptionOf, Makes, tree_option};
+ghost use Rattle.pvs_typing.specs.Growth.{EachName, all_at};
+ghost use Rattle.pvs_typing.specs.Judging.{Checks, Infers, IsGiven};
 ghost use Rattle.pvs_typing.specs.Nodes.{HasKnownParts};
 ghost use Rattle.pvs_terms.specs.code.Shapes.{shape_of};
-ghost use Rattle.pvs_typing.specs.code.Rows.{binder_at, common_above, components_at, equal_at, equal_left, equal_sides, first_type, function_at, is_true_on, is_truth, joined, second_component, second_type, truth_tree, tuple_at, widened, widened_other, widened_to};
+ghost use Rattle.pvs_typing.specs.code.Rows.{FindsCommon, FindsParts, binder_at, common_above, equal_at, equal_left, equal_sides, first_type, function_at, is_true_on, is_truth, joined, second_component, second_type, truth_tree, tuple_at, widened, widened_other, widened_to};
+ghost use Rattle.pvs_typing.specs.State.{IsTypeOf, IsTermOf, AreTypesOf, IsContextOf};
 
 use crate::coercion::coerce_of;
 use crate::contexts::enter_context;
@@ -33,10 +32,8 @@ use pvs_terms::{Id, Name, Node, RefId};
 
 /// The type of truth values.
 pub(crate) fn truth_type<T: Theories>(theories: &mut T, theory: Name) -> Result<Id, TypeFault>
-    requires theory { IsName (T.stored theories.old) theory }
-    ensures answer { Answers (tree_at (T.stored theories.new)) (T.stored theories.new) (T.declares theories.new theory) [] (pure TBool) [] result }
-    ensures known { IfOk result (IsKnown (T.stored theories.new) (T.declares theories.new theory) OfType) }
-    ensures kept { Keeps (T.stored theories.old) (T.declares theories.old theory) (T.lookups theories.old theory) (T.stored theories.new) (T.declares theories.new theory) (T.lookups theories.new theory) }
+    requires theory { IsName (T.state theories.old).stored theory }
+    ensures { Infers (T.state theories.old) (T.state theories.new) theory [] [] (λ _ _. pure TBool) result }
 {
     let made = theories.make(Node::TBool)?;
     Ok(made)
@@ -65,12 +62,10 @@ pub(crate) fn variable_type<T: Theories>(
     g: &Context,
     index: u32,
 ) -> Result<Id, TypeFault>
-    requires theory { IsName (T.stored theories.old) theory }
-    requires context { IsKnownContext (T.stored theories.old) (T.declares theories.old theory) g.now.items }
+    requires theory { IsName (T.state theories.old).stored theory }
+    requires context { IsContextOf (T.state theories.old) theory g.now.items }
     requires index { index ≤ 1000000 }
-    ensures answer { Answers (tree_at (T.stored theories.new)) (T.stored theories.new) (T.declares theories.new theory) [] (variable_infer index (context_at (T.stored theories.old) g.now.items)) [] result }
-    ensures known { IfOk result (IsKnown (T.stored theories.new) (T.declares theories.new theory) OfType) }
-    ensures kept { Keeps (T.stored theories.old) (T.declares theories.old theory) (T.lookups theories.old theory) (T.stored theories.new) (T.declares theories.new theory) (T.lookups theories.new theory) }
+    ensures { Infers (T.state theories.old) (T.state theories.new) theory [] [] (λ s _. variable_infer index (context_at s g.now.items)) result }
 {
     match binder_at(g, index) {
         None => Err(TypeFault::Refused(Code::Unknown)),
@@ -87,12 +82,10 @@ pub(crate) fn constant_type<T: Theories>(
     theory: Name,
     r: RefId,
 ) -> Result<Id, TypeFault>
-    requires theory { IsName (T.stored theories.old) theory }
-    requires reference { IsRef (T.stored theories.old) r }
-    requires declared { T.declares theories.old theory OfTerm (ref_at (T.stored theories.old) r) }
-    ensures answer { Answers (tree_at (T.stored theories.new)) (T.stored theories.new) (T.declares theories.new theory) [] (constant_infer (T.lookups theories.old theory) (ref_at (T.stored theories.old) r) []) [] result }
-    ensures known { IfOk result (IsKnown (T.stored theories.new) (T.declares theories.new theory) OfType) }
-    ensures kept { Keeps (T.stored theories.old) (T.declares theories.old theory) (T.lookups theories.old theory) (T.stored theories.new) (T.declares theories.new theory) (T.lookups theories.new theory) }
+    requires theory { IsName (T.state theories.old).stored theory }
+    requires reference { IsRef (T.state theories.old).stored r }
+    requires declared { (T.state theories.old).declares theory OfTerm (ref_at (T.state theories.old).stored r) }
+    ensures { Infers (T.state theories.old) (T.state theories.new) theory [] [] (λ s l. constant_infer l (ref_at s r) []) result }
 {
     let ty = theories.type_of(theory, r)?;
     Ok(ty)
@@ -105,12 +98,10 @@ pub(crate) fn function_type<T: Theories>(
     domain: Id,
     range: Id,
 ) -> Result<Id, TypeFault>
-    requires theory { IsName (T.stored theories.old) theory }
-    requires domain { IsKnown (T.stored theories.old) (T.declares theories.old theory) OfType domain }
-    requires range { IsKnown (T.stored theories.old) (T.declares theories.old theory) OfType range }
-    ensures ok { IfOk result (Gives (T.stored theories.new) (T.declares theories.new theory) OfType (TFun (tree_at (T.stored theories.old) domain) (tree_at (T.stored theories.old) range))) }
-    ensures refused { IfErr result (IsFault (within_limits (TFun (tree_at (T.stored theories.old) domain) (tree_at (T.stored theories.old) range)))) }
-    ensures kept { Keeps (T.stored theories.old) (T.declares theories.old theory) (T.lookups theories.old theory) (T.stored theories.new) (T.declares theories.new theory) (T.lookups theories.new theory) }
+    requires theory { IsName (T.state theories.old).stored theory }
+    requires domain { IsTypeOf (T.state theories.old) theory domain }
+    requires range { IsTypeOf (T.state theories.old) theory range }
+    ensures { Makes (T.state theories.old) (T.state theories.new) theory OfType (λ s. TFun (tree_at s domain) (tree_at s range)) result }
 {
     let made = theories.make(Node::TFun(domain, range))?;
     Ok(made)
@@ -124,13 +115,11 @@ pub(crate) fn pair_type<T: Theories>(
     first: Id,
     second: Id,
 ) -> Result<Id, TypeFault>
-    requires theory { IsName (T.stored theories.old) theory }
+    requires theory { IsName (T.state theories.old).stored theory }
     requires tag { 2 ≤ components }
-    requires first { IsKnown (T.stored theories.old) (T.declares theories.old theory) OfType first }
-    requires second { IsKnown (T.stored theories.old) (T.declares theories.old theory) OfType second }
-    ensures ok { IfOk result (Gives (T.stored theories.new) (T.declares theories.new theory) OfType (TPair components (tree_at (T.stored theories.old) first) (tree_at (T.stored theories.old) second))) }
-    ensures refused { IfErr result (IsFault (within_limits (TPair components (tree_at (T.stored theories.old) first) (tree_at (T.stored theories.old) second)))) }
-    ensures kept { Keeps (T.stored theories.old) (T.declares theories.old theory) (T.lookups theories.old theory) (T.stored theories.new) (T.declares theories.new theory) (T.lookups theories.new theory) }
+    requires first { IsTypeOf (T.state theories.old) theory first }
+    requires second { IsTypeOf (T.state theories.old) theory second }
+    ensures { Makes (T.state theories.old) (T.state theories.new) theory OfType (λ s. TPair components (tree_at s first) (tree_at s second)) result }
 {
     let made = theories.make(Node::TPair(components, first, second))?;
     Ok(made)
@@ -144,13 +133,11 @@ pub(crate) fn tuple_type<T: Theories>(
     first: Id,
     second: Id,
 ) -> Result<Id, TypeFault>
-    requires theory { IsName (T.stored theories.old) theory }
+    requires theory { IsName (T.state theories.old).stored theory }
     requires tag { 2 ≤ components }
-    requires first { IsKnown (T.stored theories.old) (T.declares theories.old theory) OfType first }
-    requires second { IsKnown (T.stored theories.old) (T.declares theories.old theory) OfType second }
-    ensures ok { IfOk result (Gives (T.stored theories.new) (T.declares theories.new theory) OfType (TPair components (tree_at (T.stored theories.old) first) (lift_one (tree_at (T.stored theories.old) second)))) }
-    ensures refused { IfErr result (IsFault (within_limits (TPair components (tree_at (T.stored theories.old) first) (lift_one (tree_at (T.stored theories.old) second))))) }
-    ensures kept { Keeps (T.stored theories.old) (T.declares theories.old theory) (T.lookups theories.old theory) (T.stored theories.new) (T.declares theories.new theory) (T.lookups theories.new theory) }
+    requires first { IsTypeOf (T.state theories.old) theory first }
+    requires second { IsTypeOf (T.state theories.old) theory second }
+    ensures { Makes (T.state theories.old) (T.state theories.new) theory OfType (λ s. TPair components (tree_at s first) (lift_one (tree_at s second))) result }
 {
     let lifted = lift_type(theories, theory, second)?;
     pair_type(theories, theory, components, first, lifted)
@@ -162,10 +149,8 @@ pub(crate) fn truth_value<T: Theories>(
     theory: Name,
     truth: bool,
 ) -> Result<Id, TypeFault>
-    requires theory { IsName (T.stored theories.old) theory }
-    ensures ok { IfOk result (Gives (T.stored theories.new) (T.declares theories.new theory) OfTerm (truth_tree truth)) }
-    ensures refused { IfErr result (IsFault (within_limits (truth_tree truth))) }
-    ensures kept { Keeps (T.stored theories.old) (T.declares theories.old theory) (T.lookups theories.old theory) (T.stored theories.new) (T.declares theories.new theory) (T.lookups theories.new theory) }
+    requires theory { IsName (T.state theories.old).stored theory }
+    ensures { Makes (T.state theories.old) (T.state theories.new) theory OfTerm (λ _. truth_tree truth) result }
 {
     let node = if truth { Node::True } else { Node::False };
     let made = theories.make(node)?;
@@ -180,13 +165,11 @@ pub(crate) fn choice<T: Theories>(
     first: Id,
     second: Id,
 ) -> Result<Id, TypeFault>
-    requires theory { IsName (T.stored theories.old) theory }
-    requires condition { IsKnown (T.stored theories.old) (T.declares theories.old theory) OfTerm condition }
-    requires first { IsKnown (T.stored theories.old) (T.declares theories.old theory) OfTerm first }
-    requires second { IsKnown (T.stored theories.old) (T.declares theories.old theory) OfTerm second }
-    ensures ok { IfOk result (Gives (T.stored theories.new) (T.declares theories.new theory) OfTerm (If (tree_at (T.stored theories.old) condition) (tree_at (T.stored theories.old) first) (tree_at (T.stored theories.old) second))) }
-    ensures refused { IfErr result (IsFault (within_limits (If (tree_at (T.stored theories.old) condition) (tree_at (T.stored theories.old) first) (tree_at (T.stored theories.old) second)))) }
-    ensures kept { Keeps (T.stored theories.old) (T.declares theories.old theory) (T.lookups theories.old theory) (T.stored theories.new) (T.declares theories.new theory) (T.lookups theories.new theory) }
+    requires theory { IsName (T.state theories.old).stored theory }
+    requires condition { IsTermOf (T.state theories.old) theory condition }
+    requires first { IsTermOf (T.state theories.old) theory first }
+    requires second { IsTermOf (T.state theories.old) theory second }
+    ensures { Makes (T.state theories.old) (T.state theories.new) theory OfTerm (λ s. If (tree_at s condition) (tree_at s first) (tree_at s second)) result }
 {
     let made = theories.make(Node::If(condition, first, second))?;
     Ok(made)
@@ -199,12 +182,10 @@ pub(crate) fn first_component<T: Theories>(
     components: u32,
     tuple: Id,
 ) -> Result<Id, TypeFault>
-    requires theory { IsName (T.stored theories.old) theory }
+    requires theory { IsName (T.state theories.old).stored theory }
     requires tag { 2 ≤ components }
-    requires tuple { IsKnown (T.stored theories.old) (T.declares theories.old theory) OfTerm tuple }
-    ensures ok { IfOk result (Gives (T.stored theories.new) (T.declares theories.new theory) OfTerm (Fst components (tree_at (T.stored theories.old) tuple))) }
-    ensures refused { IfErr result (IsFault (within_limits (Fst components (tree_at (T.stored theories.old) tuple)))) }
-    ensures kept { Keeps (T.stored theories.old) (T.declares theories.old theory) (T.lookups theories.old theory) (T.stored theories.new) (T.declares theories.new theory) (T.lookups theories.new theory) }
+    requires tuple { IsTermOf (T.state theories.old) theory tuple }
+    ensures { Makes (T.state theories.old) (T.state theories.new) theory OfTerm (λ s. Fst components (tree_at s tuple)) result }
 {
     let made = theories.make(Node::Fst(components, tuple))?;
     Ok(made)
@@ -216,11 +197,9 @@ pub(crate) fn negated<T: Theories>(
     theory: Name,
     formula: Id,
 ) -> Result<Id, TypeFault>
-    requires theory { IsName (T.stored theories.old) theory }
-    requires formula { IsKnown (T.stored theories.old) (T.declares theories.old theory) OfTerm formula }
-    ensures ok { IfOk result (Gives (T.stored theories.new) (T.declares theories.new theory) OfTerm (negation (tree_at (T.stored theories.old) formula))) }
-    ensures refused { IfErr result (IsFault (within_limits (negation (tree_at (T.stored theories.old) formula)))) }
-    ensures kept { Keeps (T.stored theories.old) (T.declares theories.old theory) (T.lookups theories.old theory) (T.stored theories.new) (T.declares theories.new theory) (T.lookups theories.new theory) }
+    requires theory { IsName (T.state theories.old).stored theory }
+    requires formula { IsTermOf (T.state theories.old) theory formula }
+    ensures { Makes (T.state theories.old) (T.state theories.new) theory OfTerm (λ s. negation (tree_at s formula)) result }
 {
     let no = truth_value(theories, theory, false)?;
     let yes = truth_value(theories, theory, true)?;
@@ -233,13 +212,10 @@ pub(crate) fn function_parts<T: Theories>(
     theory: Name,
     ty: Id,
 ) -> Result<(Id, Id), TypeFault>
-    requires theory { IsName (T.stored theories.old) theory }
-    requires ty { IsKnown (T.stored theories.old) (T.declares theories.old theory) OfType ty }
-    requires ordered { IsOrdered (T.lookups theories.old theory) }
-    ensures answer { Answers (λ p. components_at (T.stored theories.new) p.0 p.1) (T.stored theories.new) (T.declares theories.new theory) [] (function_at (T.lookups theories.old theory) (tree_at (T.stored theories.old) ty)) [] result }
-    ensures first { IfOk result (λ p. IsKnown (T.stored theories.new) (T.declares theories.new theory) OfType p.0) }
-    ensures second { IfOk result (λ p. IsKnown (T.stored theories.new) (T.declares theories.new theory) OfType p.1) }
-    ensures kept { Keeps (T.stored theories.old) (T.declares theories.old theory) (T.lookups theories.old theory) (T.stored theories.new) (T.declares theories.new theory) (T.lookups theories.new theory) }
+    requires theory { IsName (T.state theories.old).stored theory }
+    requires ty { IsTypeOf (T.state theories.old) theory ty }
+    requires ordered { IsOrdered ((T.state theories.old).lookups theory) }
+    ensures { FindsParts (T.state theories.old) (T.state theories.new) theory (λ s l. function_at l (tree_at s ty)) result }
 {
     let form = head_of(theories, theory, ty)?;
     match theories.store().view(form) {
@@ -255,13 +231,10 @@ pub(crate) fn tuple_parts<T: Theories>(
     components: u32,
     ty: Id,
 ) -> Result<(Id, Id), TypeFault>
-    requires theory { IsName (T.stored theories.old) theory }
-    requires ty { IsKnown (T.stored theories.old) (T.declares theories.old theory) OfType ty }
-    requires ordered { IsOrdered (T.lookups theories.old theory) }
-    ensures answer { Answers (λ p. components_at (T.stored theories.new) p.0 p.1) (T.stored theories.new) (T.declares theories.new theory) [] (tuple_at (T.lookups theories.old theory) components (tree_at (T.stored theories.old) ty)) [] result }
-    ensures first { IfOk result (λ p. IsKnown (T.stored theories.new) (T.declares theories.new theory) OfType p.0) }
-    ensures second { IfOk result (λ p. IsKnown (T.stored theories.new) (T.declares theories.new theory) OfType p.1) }
-    ensures kept { Keeps (T.stored theories.old) (T.declares theories.old theory) (T.lookups theories.old theory) (T.stored theories.new) (T.declares theories.new theory) (T.lookups theories.new theory) }
+    requires theory { IsName (T.state theories.old).stored theory }
+    requires ty { IsTypeOf (T.state theories.old) theory ty }
+    requires ordered { IsOrdered ((T.state theories.old).lookups theory) }
+    ensures { FindsParts (T.state theories.old) (T.state theories.new) theory (λ s l. tuple_at l components (tree_at s ty)) result }
 {
     let form = head_of(theories, theory, ty)?;
     match theories.store().view(form) {
@@ -283,12 +256,10 @@ pub(crate) fn first_type<T: Theories>(
     components: u32,
     ty: Id,
 ) -> Result<Id, TypeFault>
-    requires theory { IsName (T.stored theories.old) theory }
-    requires ty { IsKnown (T.stored theories.old) (T.declares theories.old theory) OfType ty }
-    requires ordered { IsOrdered (T.lookups theories.old theory) }
-    ensures answer { Answers (tree_at (T.stored theories.new)) (T.stored theories.new) (T.declares theories.new theory) [] (first_type (T.lookups theories.old theory) components (tree_at (T.stored theories.old) ty)) [] result }
-    ensures known { IfOk result (IsKnown (T.stored theories.new) (T.declares theories.new theory) OfType) }
-    ensures kept { Keeps (T.stored theories.old) (T.declares theories.old theory) (T.lookups theories.old theory) (T.stored theories.new) (T.declares theories.new theory) (T.lookups theories.new theory) }
+    requires theory { IsName (T.state theories.old).stored theory }
+    requires ty { IsTypeOf (T.state theories.old) theory ty }
+    requires ordered { IsOrdered ((T.state theories.old).lookups theory) }
+    ensures { Infers (T.state theories.old) (T.state theories.new) theory [] [] (λ s l. first_type l components (tree_at s ty)) result }
 {
     let parts = tuple_parts(theories, theory, components, ty)?;
     Ok(parts.0)
@@ -302,13 +273,11 @@ fn second_component<T: Theories>(
     tuple: Id,
     second: Id,
 ) -> Result<Id, TypeFault>
-    requires theory { IsName (T.stored theories.old) theory }
+    requires theory { IsName (T.state theories.old).stored theory }
     requires tag { 2 ≤ components }
-    requires tuple { IsKnown (T.stored theories.old) (T.declares theories.old theory) OfTerm tuple }
-    requires second { IsKnown (T.stored theories.old) (T.declares theories.old theory) OfType second }
-    ensures answer { Answers (tree_at (T.stored theories.new)) (T.stored theories.new) (T.declares theories.new theory) [] (second_component components (tree_at (T.stored theories.old) tuple) (tree_at (T.stored theories.old) second)) [] result }
-    ensures known { IfOk result (IsKnown (T.stored theories.new) (T.declares theories.new theory) OfType) }
-    ensures kept { Keeps (T.stored theories.old) (T.declares theories.old theory) (T.lookups theories.old theory) (T.stored theories.new) (T.declares theories.new theory) (T.lookups theories.new theory) }
+    requires tuple { IsTermOf (T.state theories.old) theory tuple }
+    requires second { IsTypeOf (T.state theories.old) theory second }
+    ensures { Infers (T.state theories.old) (T.state theories.new) theory [] [] (λ s _. second_component components (tree_at s tuple) (tree_at s second)) result }
 {
     let first = first_component(theories, theory, components, tuple)?;
     substitute(theories, theory, second, first)
@@ -322,14 +291,12 @@ pub(crate) fn second_type<T: Theories>(
     tuple: Id,
     ty: Id,
 ) -> Result<Id, TypeFault>
-    requires theory { IsName (T.stored theories.old) theory }
+    requires theory { IsName (T.state theories.old).stored theory }
     requires tag { 2 ≤ components }
-    requires tuple { IsKnown (T.stored theories.old) (T.declares theories.old theory) OfTerm tuple }
-    requires ty { IsKnown (T.stored theories.old) (T.declares theories.old theory) OfType ty }
-    requires ordered { IsOrdered (T.lookups theories.old theory) }
-    ensures answer { Answers (tree_at (T.stored theories.new)) (T.stored theories.new) (T.declares theories.new theory) [] (second_type (T.lookups theories.old theory) components (tree_at (T.stored theories.old) tuple) (tree_at (T.stored theories.old) ty)) [] result }
-    ensures known { IfOk result (IsKnown (T.stored theories.new) (T.declares theories.new theory) OfType) }
-    ensures kept { Keeps (T.stored theories.old) (T.declares theories.old theory) (T.lookups theories.old theory) (T.stored theories.new) (T.declares theories.new theory) (T.lookups theories.new theory) }
+    requires tuple { IsTermOf (T.state theories.old) theory tuple }
+    requires ty { IsTypeOf (T.state theories.old) theory ty }
+    requires ordered { IsOrdered ((T.state theories.old).lookups theory) }
+    ensures { Infers (T.state theories.old) (T.state theories.new) theory [] [] (λ s l. second_type l components (tree_at s tuple) (tree_at s ty)) result }
 {
     let parts = tuple_parts(theories, theory, components, ty)?;
     second_component(theories, theory, components, tuple, parts.1)
@@ -337,29 +304,29 @@ pub(crate) fn second_type<T: Theories>(
 
 /// The node of a known tree. Its parts are known, and older.
 pub(crate) fn node_of<T: Theories>(theories: &T, theory: Name, id: Id) -> Node
-    requires node { IsNode (T.stored theories.now) id }
-    requires names { EachName (T.declares theories.now theory) (tree_at (T.stored theories.now) id) }
-    ensures tree { tree_at (T.stored theories.now) id ≡ node_tree (T.stored theories.now) result }
-    ensures parts { HasKnownParts (T.stored theories.now) (T.declares theories.now theory) result }
-    ensures below { HasParts id (length (T.stored theories.now).refs) (shape_of result) }
-    ensures fits { IsWithinLimits (tree_at (T.stored theories.now) id) }
+    requires node { IsNode (T.state theories.now).stored id }
+    requires names { EachName ((T.state theories.now).declares theory) (tree_at (T.state theories.now).stored id) }
+    ensures tree { tree_at (T.state theories.now).stored id ≡ node_tree (T.state theories.now).stored result }
+    ensures parts { HasKnownParts (T.state theories.now).stored ((T.state theories.now).declares theory) result }
+    ensures below { HasParts id (length (T.state theories.now).stored.refs) (shape_of result) }
+    ensures fits { IsWithinLimits (tree_at (T.state theories.now).stored id) }
 {
     theories.store().view(id)
 }
 
 /// Whether a term is TRUE.
 fn is_true<T: Theories>(theories: &T, term: Id) -> bool
-    requires { IsNode (T.stored theories.now) term }
-    ensures { result ≡ is_truth (tree_at (T.stored theories.now) term) }
+    requires { IsNode (T.state theories.now).stored term }
+    ensures { result ≡ is_truth (tree_at (T.state theories.now).stored term) }
 {
     matches!(theories.store().view(term), Node::True)
 }
 
 /// Whether a term is the predicate on this type that is TRUE.
 fn is_true_on<T: Theories>(theories: &T, theory: Name, domain: Id, term: Id) -> bool
-    requires domain { IsKnown (T.stored theories.now) (T.declares theories.now theory) OfType domain }
-    requires term { IsKnown (T.stored theories.now) (T.declares theories.now theory) OfTerm term }
-    ensures { result ≡ is_true_on (tree_at (T.stored theories.now) domain) (tree_at (T.stored theories.now) term) }
+    requires domain { IsTypeOf (T.state theories.now) theory domain }
+    requires term { IsTermOf (T.state theories.now) theory term }
+    ensures { result ≡ is_true_on (tree_at (T.state theories.now).stored domain) (tree_at (T.state theories.now).stored term) }
 {
     match known_node(theories, theory, term) {
         Node::Lam(other, body) => is_true(theories, body) && is_same(theories, domain, other),
@@ -375,14 +342,14 @@ pub(crate) fn forall_parts<T: Theories>(
     left: Id,
     right: Id,
 ) -> Option<(Id, Id)>
-    requires left { IsKnown (T.stored theories.now) (T.declares theories.now theory) OfTerm left }
-    requires right { IsKnown (T.stored theories.now) (T.declares theories.now theory) OfTerm right }
-    ensures some { IfSome result (λ p. (tree_at (T.stored theories.now) left) ≡ Lam (tree_at (T.stored theories.now) p.0) (tree_at (T.stored theories.now) p.1)) }
-    ensures test { IfSome result (λ _. is_forall (tree_at (T.stored theories.now) left) (tree_at (T.stored theories.now) right) ≡ true) }
+    requires left { IsTermOf (T.state theories.now) theory left }
+    requires right { IsTermOf (T.state theories.now) theory right }
+    ensures some { IfSome result (λ p. (tree_at (T.state theories.now).stored left) ≡ Lam (tree_at (T.state theories.now).stored p.0) (tree_at (T.state theories.now).stored p.1)) }
+    ensures test { IfSome result (λ _. is_forall (tree_at (T.state theories.now).stored left) (tree_at (T.state theories.now).stored right) ≡ true) }
     ensures below { IfSome result (λ p. (p.0 < left) × (p.1 < left)) }
-    ensures domain { IfSome result (λ p. IsKnown (T.stored theories.now) (T.declares theories.now theory) OfType p.0) }
-    ensures predicate { IfSome result (λ p. IsKnown (T.stored theories.now) (T.declares theories.now theory) OfTerm p.1) }
-    ensures none { IfNone result (is_forall (tree_at (T.stored theories.now) left) (tree_at (T.stored theories.now) right) ≡ false) }
+    ensures domain { IfSome result (λ p. IsTypeOf (T.state theories.now) theory p.0) }
+    ensures predicate { IfSome result (λ p. IsTermOf (T.state theories.now) theory p.1) }
+    ensures none { IfNone result (is_forall (tree_at (T.state theories.now).stored left) (tree_at (T.state theories.now).stored right) ≡ false) }
 {
     match node_of(theories, theory, left) {
         Node::Lam(domain, predicate) => {
@@ -407,14 +374,12 @@ pub(crate) fn equal_sides<T: Theories>(
     right_type: Id,
     conditions: &mut Vec<Condition>,
 ) -> Result<Id, TypeFault>
-    requires given { IsGiven (T.stored theories.old) (T.declares theories.old theory) (T.lookups theories.old theory) theory g.now.items conditions.old.items }
-    requires left { IsKnown (T.stored theories.old) (T.declares theories.old theory) OfTerm left }
-    requires right { IsKnown (T.stored theories.old) (T.declares theories.old theory) OfTerm right }
-    requires left_type { IsKnown (T.stored theories.old) (T.declares theories.old theory) OfType left_type }
-    requires right_type { IsKnown (T.stored theories.old) (T.declares theories.old theory) OfType right_type }
-    ensures answer { Answers (tree_at (T.stored theories.new)) (T.stored theories.new) (T.declares theories.new theory) (conditions_at (T.stored theories.old) conditions.old.items) (equal_sides (T.lookups theories.old theory) (context_at (T.stored theories.old) g.now.items) (tree_at (T.stored theories.old) left) (tree_at (T.stored theories.old) right) (tree_at (T.stored theories.old) left_type) (tree_at (T.stored theories.old) right_type)) conditions.new.items result }
-    ensures known { IfOk result (IsKnown (T.stored theories.new) (T.declares theories.new theory) OfType) }
-    ensures kept { Keeps (T.stored theories.old) (T.declares theories.old theory) (T.lookups theories.old theory) (T.stored theories.new) (T.declares theories.new theory) (T.lookups theories.new theory) }
+    requires given { IsGiven (T.state theories.old) theory g.now.items conditions.old.items }
+    requires left { IsTermOf (T.state theories.old) theory left }
+    requires right { IsTermOf (T.state theories.old) theory right }
+    requires left_type { IsTypeOf (T.state theories.old) theory left_type }
+    requires right_type { IsTypeOf (T.state theories.old) theory right_type }
+    ensures { Infers (T.state theories.old) (T.state theories.new) theory conditions.old.items conditions.new.items (λ s l. equal_sides l (context_at s g.now.items) (tree_at s left) (tree_at s right) (tree_at s left_type) (tree_at s right_type)) result }
 {
     let common = most_of(theories, theory, left_type)?;
     equal_at(
@@ -434,15 +399,13 @@ fn equal_at<T: Theories>(
     common: Id,
     conditions: &mut Vec<Condition>,
 ) -> Result<Id, TypeFault>
-    requires given { IsGiven (T.stored theories.old) (T.declares theories.old theory) (T.lookups theories.old theory) theory g.now.items conditions.old.items }
-    requires left { IsKnown (T.stored theories.old) (T.declares theories.old theory) OfTerm left }
-    requires right { IsKnown (T.stored theories.old) (T.declares theories.old theory) OfTerm right }
-    requires left_type { IsKnown (T.stored theories.old) (T.declares theories.old theory) OfType left_type }
-    requires right_type { IsKnown (T.stored theories.old) (T.declares theories.old theory) OfType right_type }
-    requires common { IsKnown (T.stored theories.old) (T.declares theories.old theory) OfType common }
-    ensures answer { Answers (tree_at (T.stored theories.new)) (T.stored theories.new) (T.declares theories.new theory) (conditions_at (T.stored theories.old) conditions.old.items) (equal_at (T.lookups theories.old theory) (context_at (T.stored theories.old) g.now.items) (tree_at (T.stored theories.old) left) (tree_at (T.stored theories.old) right) (tree_at (T.stored theories.old) left_type) (tree_at (T.stored theories.old) right_type) (tree_at (T.stored theories.old) common)) conditions.new.items result }
-    ensures known { IfOk result (IsKnown (T.stored theories.new) (T.declares theories.new theory) OfType) }
-    ensures kept { Keeps (T.stored theories.old) (T.declares theories.old theory) (T.lookups theories.old theory) (T.stored theories.new) (T.declares theories.new theory) (T.lookups theories.new theory) }
+    requires given { IsGiven (T.state theories.old) theory g.now.items conditions.old.items }
+    requires left { IsTermOf (T.state theories.old) theory left }
+    requires right { IsTermOf (T.state theories.old) theory right }
+    requires left_type { IsTypeOf (T.state theories.old) theory left_type }
+    requires right_type { IsTypeOf (T.state theories.old) theory right_type }
+    requires common { IsTypeOf (T.state theories.old) theory common }
+    ensures { Infers (T.state theories.old) (T.state theories.new) theory conditions.old.items conditions.new.items (λ s l. equal_at l (context_at s g.now.items) (tree_at s left) (tree_at s right) (tree_at s left_type) (tree_at s right_type) (tree_at s common)) result }
 {
     coerce_of(theories, theory, g, right, right_type, common, conditions)?;
     equal_left(theories, theory, g, left, left_type, common, conditions)
@@ -458,13 +421,11 @@ fn equal_left<T: Theories>(
     common: Id,
     conditions: &mut Vec<Condition>,
 ) -> Result<Id, TypeFault>
-    requires given { IsGiven (T.stored theories.old) (T.declares theories.old theory) (T.lookups theories.old theory) theory g.now.items conditions.old.items }
-    requires left { IsKnown (T.stored theories.old) (T.declares theories.old theory) OfTerm left }
-    requires left_type { IsKnown (T.stored theories.old) (T.declares theories.old theory) OfType left_type }
-    requires common { IsKnown (T.stored theories.old) (T.declares theories.old theory) OfType common }
-    ensures answer { Answers (tree_at (T.stored theories.new)) (T.stored theories.new) (T.declares theories.new theory) (conditions_at (T.stored theories.old) conditions.old.items) (equal_left (T.lookups theories.old theory) (context_at (T.stored theories.old) g.now.items) (tree_at (T.stored theories.old) left) (tree_at (T.stored theories.old) left_type) (tree_at (T.stored theories.old) common)) conditions.new.items result }
-    ensures known { IfOk result (IsKnown (T.stored theories.new) (T.declares theories.new theory) OfType) }
-    ensures kept { Keeps (T.stored theories.old) (T.declares theories.old theory) (T.lookups theories.old theory) (T.stored theories.new) (T.declares theories.new theory) (T.lookups theories.new theory) }
+    requires given { IsGiven (T.state theories.old) theory g.now.items conditions.old.items }
+    requires left { IsTermOf (T.state theories.old) theory left }
+    requires left_type { IsTypeOf (T.state theories.old) theory left_type }
+    requires common { IsTypeOf (T.state theories.old) theory common }
+    ensures { Infers (T.state theories.old) (T.state theories.new) theory conditions.old.items conditions.new.items (λ s l. equal_left l (context_at s g.now.items) (tree_at s left) (tree_at s left_type) (tree_at s common)) result }
 {
     coerce_of(theories, theory, g, left, left_type, common, conditions)?;
     truth_type(theories, theory)
@@ -472,10 +433,10 @@ fn equal_left<T: Theories>(
 
 /// The first of these types that is among those.
 fn first_common<T: Theories>(theories: &T, theory: Name, types: &[Id], others: &[Id]) -> Option<Id>
-    requires types { AreKnown (T.stored theories.now) (T.declares theories.now theory) OfType types.now }
-    requires others { AreKnown (T.stored theories.now) (T.declares theories.now theory) OfType others.now }
-    ensures known { IsOptionKnown (T.stored theories.now) (T.declares theories.now theory) result }
-    ensures first { tree_option (T.stored theories.now) result ≡ first_among (all_at (T.stored theories.now) types.now) (all_at (T.stored theories.now) others.now) }
+    requires types { AreTypesOf (T.state theories.now) theory types.now }
+    requires others { AreTypesOf (T.state theories.now) theory others.now }
+    ensures known { IsOptionOf (T.state theories.now) theory result }
+    ensures first { tree_option (T.state theories.now).stored result ≡ first_among (all_at (T.state theories.now).stored types.now) (all_at (T.state theories.now).stored others.now) }
 {
     for ty in types {
         if is_among(theories, theory, *ty, others) {
@@ -492,13 +453,11 @@ fn common_above<T: Theories>(
     first: Id,
     second: Id,
 ) -> Result<Option<Id>, TypeFault>
-    requires theory { IsName (T.stored theories.old) theory }
-    requires first { IsKnown (T.stored theories.old) (T.declares theories.old theory) OfType first }
-    requires second { IsKnown (T.stored theories.old) (T.declares theories.old theory) OfType second }
-    requires ordered { IsOrdered (T.lookups theories.old theory) }
-    ensures answer { Answers (tree_option (T.stored theories.new)) (T.stored theories.new) (T.declares theories.new theory) [] (common_above (T.lookups theories.old theory) (tree_at (T.stored theories.old) first) (tree_at (T.stored theories.old) second)) [] result }
-    ensures known { IfOk result (IsOptionKnown (T.stored theories.new) (T.declares theories.new theory)) }
-    ensures kept { Keeps (T.stored theories.old) (T.declares theories.old theory) (T.lookups theories.old theory) (T.stored theories.new) (T.declares theories.new theory) (T.lookups theories.new theory) }
+    requires theory { IsName (T.state theories.old).stored theory }
+    requires first { IsTypeOf (T.state theories.old) theory first }
+    requires second { IsTypeOf (T.state theories.old) theory second }
+    requires ordered { IsOrdered ((T.state theories.old).lookups theory) }
+    ensures { FindsCommon (T.state theories.old) (T.state theories.new) theory (λ s l. common_above l (tree_at s first) (tree_at s second)) result }
 {
     let above_first = up_of(theories, theory, first)?;
     let above_second = up_of(theories, theory, second)?;
@@ -516,13 +475,12 @@ fn coerce_under<T: Theories>(
     to: Id,
     conditions: &mut Vec<Condition>,
 ) -> Result<(), TypeFault>
-    requires given { IsGiven (T.stored theories.old) (T.declares theories.old theory) (T.lookups theories.old theory) theory g.now.items conditions.old.items }
-    requires hypothesis { IsKnown (T.stored theories.old) (T.declares theories.old theory) OfTerm hypothesis }
-    requires term { IsKnown (T.stored theories.old) (T.declares theories.old theory) OfTerm term }
-    requires from { IsKnown (T.stored theories.old) (T.declares theories.old theory) OfType from }
-    requires to { IsKnown (T.stored theories.old) (T.declares theories.old theory) OfType to }
-    ensures answer { Answers (λ _. tt) (T.stored theories.new) (T.declares theories.new theory) (conditions_at (T.stored theories.old) conditions.old.items) (coerce (T.lookups theories.old theory) (context_at (T.stored theories.old) (Assumed.Hyp hypothesis ∷ g.now.items)) (tree_at (T.stored theories.old) term) (tree_at (T.stored theories.old) from) (tree_at (T.stored theories.old) to)) conditions.new.items result }
-    ensures kept { Keeps (T.stored theories.old) (T.declares theories.old theory) (T.lookups theories.old theory) (T.stored theories.new) (T.declares theories.new theory) (T.lookups theories.new theory) }
+    requires given { IsGiven (T.state theories.old) theory g.now.items conditions.old.items }
+    requires hypothesis { IsTermOf (T.state theories.old) theory hypothesis }
+    requires term { IsTermOf (T.state theories.old) theory term }
+    requires from { IsTypeOf (T.state theories.old) theory from }
+    requires to { IsTypeOf (T.state theories.old) theory to }
+    ensures { Checks (T.state theories.old) (T.state theories.new) theory conditions.old.items conditions.new.items (λ s l. coerce l (context_at s (Assumed.Hyp hypothesis ∷ g.now.items)) (tree_at s term) (tree_at s from) (tree_at s to)) result }
 {
     let alloc = theories.store().allocator();
     let inner = enter_context(alloc, g, Assumed::Hyp(hypothesis))?;
@@ -542,16 +500,14 @@ pub(crate) fn joined<T: Theories>(
     second_type: Id,
     conditions: &mut Vec<Condition>,
 ) -> Result<Id, TypeFault>
-    requires given { IsGiven (T.stored theories.old) (T.declares theories.old theory) (T.lookups theories.old theory) theory g.now.items conditions.old.items }
-    requires condition { IsKnown (T.stored theories.old) (T.declares theories.old theory) OfTerm condition }
-    requires negation { IsKnown (T.stored theories.old) (T.declares theories.old theory) OfTerm negation }
-    requires first { IsKnown (T.stored theories.old) (T.declares theories.old theory) OfTerm first }
-    requires second { IsKnown (T.stored theories.old) (T.declares theories.old theory) OfTerm second }
-    requires first_type { IsKnown (T.stored theories.old) (T.declares theories.old theory) OfType first_type }
-    requires second_type { IsKnown (T.stored theories.old) (T.declares theories.old theory) OfType second_type }
-    ensures answer { Answers (tree_at (T.stored theories.new)) (T.stored theories.new) (T.declares theories.new theory) (conditions_at (T.stored theories.old) conditions.old.items) (joined (T.lookups theories.old theory) (context_at (T.stored theories.old) (Assumed.Hyp condition ∷ g.now.items)) (context_at (T.stored theories.old) (Assumed.Hyp negation ∷ g.now.items)) (tree_at (T.stored theories.old) first) (tree_at (T.stored theories.old) second) (tree_at (T.stored theories.old) first_type) (tree_at (T.stored theories.old) second_type)) conditions.new.items result }
-    ensures known { IfOk result (IsKnown (T.stored theories.new) (T.declares theories.new theory) OfType) }
-    ensures kept { Keeps (T.stored theories.old) (T.declares theories.old theory) (T.lookups theories.old theory) (T.stored theories.new) (T.declares theories.new theory) (T.lookups theories.new theory) }
+    requires given { IsGiven (T.state theories.old) theory g.now.items conditions.old.items }
+    requires condition { IsTermOf (T.state theories.old) theory condition }
+    requires negation { IsTermOf (T.state theories.old) theory negation }
+    requires first { IsTermOf (T.state theories.old) theory first }
+    requires second { IsTermOf (T.state theories.old) theory second }
+    requires first_type { IsTypeOf (T.state theories.old) theory first_type }
+    requires second_type { IsTypeOf (T.state theories.old) theory second_type }
+    ensures { Infers (T.state theories.old) (T.state theories.new) theory conditions.old.items conditions.new.items (λ s l. joined l (context_at s (Assumed.Hyp condition ∷ g.now.items)) (context_at s (Assumed.Hyp negation ∷ g.now.items)) (tree_at s first) (tree_at s second) (tree_at s first_type) (tree_at s second_type)) result }
 {
     let above = common_above(theories, theory, first_type, second_type)?;
     match above {
@@ -584,16 +540,14 @@ fn widened<T: Theories>(
     second_type: Id,
     conditions: &mut Vec<Condition>,
 ) -> Result<Id, TypeFault>
-    requires given { IsGiven (T.stored theories.old) (T.declares theories.old theory) (T.lookups theories.old theory) theory g.now.items conditions.old.items }
-    requires condition { IsKnown (T.stored theories.old) (T.declares theories.old theory) OfTerm condition }
-    requires negation { IsKnown (T.stored theories.old) (T.declares theories.old theory) OfTerm negation }
-    requires first { IsKnown (T.stored theories.old) (T.declares theories.old theory) OfTerm first }
-    requires second { IsKnown (T.stored theories.old) (T.declares theories.old theory) OfTerm second }
-    requires first_type { IsKnown (T.stored theories.old) (T.declares theories.old theory) OfType first_type }
-    requires second_type { IsKnown (T.stored theories.old) (T.declares theories.old theory) OfType second_type }
-    ensures answer { Answers (tree_at (T.stored theories.new)) (T.stored theories.new) (T.declares theories.new theory) (conditions_at (T.stored theories.old) conditions.old.items) (widened (T.lookups theories.old theory) (context_at (T.stored theories.old) (Assumed.Hyp condition ∷ g.now.items)) (context_at (T.stored theories.old) (Assumed.Hyp negation ∷ g.now.items)) (tree_at (T.stored theories.old) first) (tree_at (T.stored theories.old) second) (tree_at (T.stored theories.old) first_type) (tree_at (T.stored theories.old) second_type)) conditions.new.items result }
-    ensures known { IfOk result (IsKnown (T.stored theories.new) (T.declares theories.new theory) OfType) }
-    ensures kept { Keeps (T.stored theories.old) (T.declares theories.old theory) (T.lookups theories.old theory) (T.stored theories.new) (T.declares theories.new theory) (T.lookups theories.new theory) }
+    requires given { IsGiven (T.state theories.old) theory g.now.items conditions.old.items }
+    requires condition { IsTermOf (T.state theories.old) theory condition }
+    requires negation { IsTermOf (T.state theories.old) theory negation }
+    requires first { IsTermOf (T.state theories.old) theory first }
+    requires second { IsTermOf (T.state theories.old) theory second }
+    requires first_type { IsTypeOf (T.state theories.old) theory first_type }
+    requires second_type { IsTypeOf (T.state theories.old) theory second_type }
+    ensures { Infers (T.state theories.old) (T.state theories.new) theory conditions.old.items conditions.new.items (λ s l. widened l (context_at s (Assumed.Hyp condition ∷ g.now.items)) (context_at s (Assumed.Hyp negation ∷ g.now.items)) (tree_at s first) (tree_at s second) (tree_at s first_type) (tree_at s second_type)) result }
 {
     let common = most_of(theories, theory, first_type)?;
     widened_to(
@@ -625,17 +579,15 @@ fn widened_to<T: Theories>(
     common: Id,
     conditions: &mut Vec<Condition>,
 ) -> Result<Id, TypeFault>
-    requires given { IsGiven (T.stored theories.old) (T.declares theories.old theory) (T.lookups theories.old theory) theory g.now.items conditions.old.items }
-    requires condition { IsKnown (T.stored theories.old) (T.declares theories.old theory) OfTerm condition }
-    requires negation { IsKnown (T.stored theories.old) (T.declares theories.old theory) OfTerm negation }
-    requires first { IsKnown (T.stored theories.old) (T.declares theories.old theory) OfTerm first }
-    requires second { IsKnown (T.stored theories.old) (T.declares theories.old theory) OfTerm second }
-    requires first_type { IsKnown (T.stored theories.old) (T.declares theories.old theory) OfType first_type }
-    requires second_type { IsKnown (T.stored theories.old) (T.declares theories.old theory) OfType second_type }
-    requires common { IsKnown (T.stored theories.old) (T.declares theories.old theory) OfType common }
-    ensures answer { Answers (tree_at (T.stored theories.new)) (T.stored theories.new) (T.declares theories.new theory) (conditions_at (T.stored theories.old) conditions.old.items) (widened_to (T.lookups theories.old theory) (context_at (T.stored theories.old) (Assumed.Hyp condition ∷ g.now.items)) (context_at (T.stored theories.old) (Assumed.Hyp negation ∷ g.now.items)) (tree_at (T.stored theories.old) first) (tree_at (T.stored theories.old) second) (tree_at (T.stored theories.old) first_type) (tree_at (T.stored theories.old) second_type) (tree_at (T.stored theories.old) common)) conditions.new.items result }
-    ensures known { IfOk result (IsKnown (T.stored theories.new) (T.declares theories.new theory) OfType) }
-    ensures kept { Keeps (T.stored theories.old) (T.declares theories.old theory) (T.lookups theories.old theory) (T.stored theories.new) (T.declares theories.new theory) (T.lookups theories.new theory) }
+    requires given { IsGiven (T.state theories.old) theory g.now.items conditions.old.items }
+    requires condition { IsTermOf (T.state theories.old) theory condition }
+    requires negation { IsTermOf (T.state theories.old) theory negation }
+    requires first { IsTermOf (T.state theories.old) theory first }
+    requires second { IsTermOf (T.state theories.old) theory second }
+    requires first_type { IsTypeOf (T.state theories.old) theory first_type }
+    requires second_type { IsTypeOf (T.state theories.old) theory second_type }
+    requires common { IsTypeOf (T.state theories.old) theory common }
+    ensures { Infers (T.state theories.old) (T.state theories.new) theory conditions.old.items conditions.new.items (λ s l. widened_to l (context_at s (Assumed.Hyp condition ∷ g.now.items)) (context_at s (Assumed.Hyp negation ∷ g.now.items)) (tree_at s first) (tree_at s second) (tree_at s first_type) (tree_at s second_type) (tree_at s common)) result }
 {
     coerce_under(
         theories, theory, g, condition, first, first_type, common, conditions,
@@ -663,14 +615,12 @@ fn widened_other<T: Theories>(
     common: Id,
     conditions: &mut Vec<Condition>,
 ) -> Result<Id, TypeFault>
-    requires given { IsGiven (T.stored theories.old) (T.declares theories.old theory) (T.lookups theories.old theory) theory g.now.items conditions.old.items }
-    requires negation { IsKnown (T.stored theories.old) (T.declares theories.old theory) OfTerm negation }
-    requires second { IsKnown (T.stored theories.old) (T.declares theories.old theory) OfTerm second }
-    requires second_type { IsKnown (T.stored theories.old) (T.declares theories.old theory) OfType second_type }
-    requires common { IsKnown (T.stored theories.old) (T.declares theories.old theory) OfType common }
-    ensures answer { Answers (tree_at (T.stored theories.new)) (T.stored theories.new) (T.declares theories.new theory) (conditions_at (T.stored theories.old) conditions.old.items) (widened_other (T.lookups theories.old theory) (context_at (T.stored theories.old) (Assumed.Hyp negation ∷ g.now.items)) (tree_at (T.stored theories.old) second) (tree_at (T.stored theories.old) second_type) (tree_at (T.stored theories.old) common)) conditions.new.items result }
-    ensures known { IfOk result (IsKnown (T.stored theories.new) (T.declares theories.new theory) OfType) }
-    ensures kept { Keeps (T.stored theories.old) (T.declares theories.old theory) (T.lookups theories.old theory) (T.stored theories.new) (T.declares theories.new theory) (T.lookups theories.new theory) }
+    requires given { IsGiven (T.state theories.old) theory g.now.items conditions.old.items }
+    requires negation { IsTermOf (T.state theories.old) theory negation }
+    requires second { IsTermOf (T.state theories.old) theory second }
+    requires second_type { IsTypeOf (T.state theories.old) theory second_type }
+    requires common { IsTypeOf (T.state theories.old) theory common }
+    ensures { Infers (T.state theories.old) (T.state theories.new) theory conditions.old.items conditions.new.items (λ s l. widened_other l (context_at s (Assumed.Hyp negation ∷ g.now.items)) (tree_at s second) (tree_at s second_type) (tree_at s common)) result }
 {
     coerce_under(
         theories,

@@ -1,17 +1,15 @@
 //! The steps of a coercion, by the seven cases.
 
-ghost use Rattle.std.specs.Prelude.{◌≡◌, ◌≤◌, ◌∷◌, suc, false, Ok, IfOk, IfErr};
+ghost use Rattle.std.specs.Prelude.{◌≡◌, ◌≤◌, suc, false};
 ghost use Rattle.pvs_terms.specs.Tree.{TName, TSub, TFun, TPair, tree_eq};
-ghost use Rattle.pvs_terms.specs.declared.shape.Sort.TheVariants.{OfType, OfTerm};
 ghost use Rattle.pvs_terms.specs.Stored.{IsName, IsRef, tree_at, ref_at};
 ghost use Rattle.pvs_subst.specs.Contexts.{context_at};
 ghost use Rattle.pvs_sig.specs.Lookups.{IsOrdered};
-ghost use Rattle.pvs_types.specs.Outcome.{pure};
 ghost use Rattle.pvs_types.specs.Coerce.{coerce, coerce_to, coerce_parts, coerce_function};
 ghost use Rattle.pvs_typing.specs.Above.{is_above};
-ghost use Rattle.pvs_typing.specs.Growth.{IsKnown, IsKnownContext, Keeps};
-ghost use Rattle.pvs_typing.specs.Answers.{IsFault, IsRefusal};
-ghost use Rattle.pvs_typing.specs.code.Tasks.{Follows, IsKnownCoercion, IsKnownTask, apply_outcome, coercion_work, head_outcome, satisfy_outcome, second_outcome, task_outcome, task_work};
+ghost use Rattle.pvs_typing.specs.Answers.{Finds};
+ghost use Rattle.pvs_typing.specs.code.Tasks.{IsCoercionOf, IsTaskOf, Passes, Steps, apply_outcome, coercion_work, head_outcome, satisfy_outcome, second_outcome, task_outcome, task_work};
+ghost use Rattle.pvs_typing.specs.State.{IsTypeOf, IsTermOf, IsContextOf};
 
 use crate::contexts::{copy_context, enter_context};
 use crate::fault::TypeFault;
@@ -33,13 +31,11 @@ fn is_above<T: Theories>(
     from: Id,
     to: Id,
 ) -> Result<bool, TypeFault>
-    requires theory { IsName (T.stored theories.old) theory }
-    requires from { IsKnown (T.stored theories.old) (T.declares theories.old theory) OfType from }
-    requires to { IsKnown (T.stored theories.old) (T.declares theories.old theory) OfType to }
-    requires ordered { IsOrdered (T.lookups theories.old theory) }
-    ensures ok { IfOk result (λ b. is_above (T.lookups theories.old theory) (tree_at (T.stored theories.old) from) (tree_at (T.stored theories.old) to) ≡ Ok b) }
-    ensures refused { IfErr result (IsRefusal (is_above (T.lookups theories.old theory) (tree_at (T.stored theories.old) from) (tree_at (T.stored theories.old) to))) }
-    ensures kept { Keeps (T.stored theories.old) (T.declares theories.old theory) (T.lookups theories.old theory) (T.stored theories.new) (T.declares theories.new theory) (T.lookups theories.new theory) }
+    requires theory { IsName (T.state theories.old).stored theory }
+    requires from { IsTypeOf (T.state theories.old) theory from }
+    requires to { IsTypeOf (T.state theories.old) theory to }
+    requires ordered { IsOrdered ((T.state theories.old).lookups theory) }
+    ensures { Finds (T.state theories.old) (T.state theories.new) theory (λ s l. is_above l (tree_at s from) (tree_at s to)) result }
 {
     let types = up_of(theories, theory, from)?;
     let found = is_among(theories, theory, to, &types);
@@ -48,13 +44,11 @@ fn is_above<T: Theories>(
 
 /// Nothing, where the head of the one type is the other.
 fn same_head<T: Theories>(theories: &mut T, theory: Name, from: Id, to: Id) -> Result<(), TypeFault>
-    requires theory { IsName (T.stored theories.old) theory }
-    requires from { IsKnown (T.stored theories.old) (T.declares theories.old theory) OfType from }
-    requires to { IsKnown (T.stored theories.old) (T.declares theories.old theory) OfType to }
-    requires ordered { IsOrdered (T.lookups theories.old theory) }
-    ensures ok { IfOk result (λ _. head_outcome (T.lookups theories.old theory) (tree_at (T.stored theories.old) from) (tree_at (T.stored theories.old) to) ≡ pure tt) }
-    ensures refused { IfErr result (IsFault (head_outcome (T.lookups theories.old theory) (tree_at (T.stored theories.old) from) (tree_at (T.stored theories.old) to))) }
-    ensures kept { Keeps (T.stored theories.old) (T.declares theories.old theory) (T.lookups theories.old theory) (T.stored theories.new) (T.declares theories.new theory) (T.lookups theories.new theory) }
+    requires theory { IsName (T.state theories.old).stored theory }
+    requires from { IsTypeOf (T.state theories.old) theory from }
+    requires to { IsTypeOf (T.state theories.old) theory to }
+    requires ordered { IsOrdered ((T.state theories.old).lookups theory) }
+    ensures { Passes (T.state theories.old) (T.state theories.new) theory (λ s l. head_outcome l (tree_at s from) (tree_at s to)) result }
 {
     let form = head_of(theories, theory, from)?;
     if is_same(theories, form, to) {
@@ -74,14 +68,12 @@ fn to_name<T: Theories>(
     to: Id,
     r: RefId,
 ) -> Result<Next, TypeFault>
-    requires theory { IsName (T.stored theories.old) theory }
-    requires coercion { IsKnownCoercion (T.stored theories.old) (T.declares theories.old theory) context term from to }
-    requires r { IsRef (T.stored theories.old) r }
-    requires is { tree_at (T.stored theories.old) to ≡ TName (ref_at (T.stored theories.old) r) }
-    requires ordered { IsOrdered (T.lookups theories.old theory) }
-    ensures ok { IfOk result (Follows (T.lookups theories.old theory) (T.stored theories.new) (T.declares theories.new theory) (coerce_to (T.lookups theories.old theory) (coerce (T.lookups theories.old theory)) (context_at (T.stored theories.old) context.items) (tree_at (T.stored theories.old) term) (tree_at (T.stored theories.old) from) (TName (ref_at (T.stored theories.old) r))) (coercion_work (T.lookups theories.old theory) (tree_at (T.stored theories.old) from) (TName (ref_at (T.stored theories.old) r)))) }
-    ensures refused { IfErr result (IsFault (coerce_to (T.lookups theories.old theory) (coerce (T.lookups theories.old theory)) (context_at (T.stored theories.old) context.items) (tree_at (T.stored theories.old) term) (tree_at (T.stored theories.old) from) (TName (ref_at (T.stored theories.old) r)))) }
-    ensures kept { Keeps (T.stored theories.old) (T.declares theories.old theory) (T.lookups theories.old theory) (T.stored theories.new) (T.declares theories.new theory) (T.lookups theories.new theory) }
+    requires theory { IsName (T.state theories.old).stored theory }
+    requires coercion { IsCoercionOf (T.state theories.old) theory context term from to }
+    requires r { IsRef (T.state theories.old).stored r }
+    requires is { tree_at (T.state theories.old).stored to ≡ TName (ref_at (T.state theories.old).stored r) }
+    requires ordered { IsOrdered ((T.state theories.old).lookups theory) }
+    ensures { Steps (T.state theories.old) (T.state theories.new) theory (λ s l. coerce_to l (coerce l) (context_at s context.items) (tree_at s term) (tree_at s from) (TName (ref_at s r))) (λ s l. coercion_work l (tree_at s from) (TName (ref_at s r))) result }
 {
     match theories.body_of(theory, r)? {
         None => {
@@ -107,11 +99,10 @@ fn to_subtype<T: Theories>(
     supertype: Id,
     predicate: Id,
 ) -> Result<Next, TypeFault>
-    requires theory { IsName (T.stored theories.now) _theory }
-    requires coercion { IsKnownCoercion (T.stored theories.now) (T.declares theories.now _theory) context term from supertype }
-    requires predicate { IsKnown (T.stored theories.now) (T.declares theories.now _theory) OfTerm predicate }
-    ensures ok { IfOk result (Follows (T.lookups theories.now _theory) (T.stored theories.now) (T.declares theories.now _theory) (coerce_to (T.lookups theories.now _theory) (coerce (T.lookups theories.now _theory)) (context_at (T.stored theories.now) context.items) (tree_at (T.stored theories.now) term) (tree_at (T.stored theories.now) from) (TSub (tree_at (T.stored theories.now) supertype) (tree_at (T.stored theories.now) predicate))) (coercion_work (T.lookups theories.now _theory) (tree_at (T.stored theories.now) from) (TSub (tree_at (T.stored theories.now) supertype) (tree_at (T.stored theories.now) predicate)))) }
-    ensures refused { IfErr result (IsFault (coerce_to (T.lookups theories.now _theory) (coerce (T.lookups theories.now _theory)) (context_at (T.stored theories.now) context.items) (tree_at (T.stored theories.now) term) (tree_at (T.stored theories.now) from) (TSub (tree_at (T.stored theories.now) supertype) (tree_at (T.stored theories.now) predicate)))) }
+    requires theory { IsName (T.state theories.now).stored _theory }
+    requires coercion { IsCoercionOf (T.state theories.now) _theory context term from supertype }
+    requires predicate { IsTermOf (T.state theories.now) _theory predicate }
+    ensures { Steps (T.state theories.now) (T.state theories.now) _theory (λ s l. coerce_to l (coerce l) (context_at s context.items) (tree_at s term) (tree_at s from) (TSub (tree_at s supertype) (tree_at s predicate))) (λ s l. coercion_work l (tree_at s from) (TSub (tree_at s supertype) (tree_at s predicate))) result }
 {
     let alloc = theories.store().allocator();
     let outer = copy_context(alloc, &context)?;
@@ -142,13 +133,11 @@ fn between_pairs<T: Theories>(
     others_from: Id,
     others_to: Id,
 ) -> Result<Next, TypeFault>
-    requires theory { IsName (T.stored theories.old) theory }
-    requires first { IsKnownCoercion (T.stored theories.old) (T.declares theories.old theory) context term first_from first_to }
-    requires others { IsKnownCoercion (T.stored theories.old) (T.declares theories.old theory) context term others_from others_to }
+    requires theory { IsName (T.state theories.old).stored theory }
+    requires first { IsCoercionOf (T.state theories.old) theory context term first_from first_to }
+    requires others { IsCoercionOf (T.state theories.old) theory context term others_from others_to }
     requires components { 2 ≤ components }
-    ensures ok { IfOk result (Follows (T.lookups theories.old theory) (T.stored theories.new) (T.declares theories.new theory) (coerce_parts (coerce (T.lookups theories.old theory)) (context_at (T.stored theories.old) context.items) (tree_at (T.stored theories.old) term) components (tree_at (T.stored theories.old) first_from) (tree_at (T.stored theories.old) others_from) (tree_at (T.stored theories.old) first_to) (tree_at (T.stored theories.old) others_to)) (coercion_work (T.lookups theories.old theory) (TPair components (tree_at (T.stored theories.old) first_from) (tree_at (T.stored theories.old) others_from)) (TPair components (tree_at (T.stored theories.old) first_to) (tree_at (T.stored theories.old) others_to)))) }
-    ensures refused { IfErr result (IsFault (coerce_parts (coerce (T.lookups theories.old theory)) (context_at (T.stored theories.old) context.items) (tree_at (T.stored theories.old) term) components (tree_at (T.stored theories.old) first_from) (tree_at (T.stored theories.old) others_from) (tree_at (T.stored theories.old) first_to) (tree_at (T.stored theories.old) others_to))) }
-    ensures kept { Keeps (T.stored theories.old) (T.declares theories.old theory) (T.lookups theories.old theory) (T.stored theories.new) (T.declares theories.new theory) (T.lookups theories.new theory) }
+    ensures { Steps (T.state theories.old) (T.state theories.new) theory (λ s l. coerce_parts (coerce l) (context_at s context.items) (tree_at s term) components (tree_at s first_from) (tree_at s others_from) (tree_at s first_to) (tree_at s others_to)) (λ s l. coercion_work l (TPair components (tree_at s first_from) (tree_at s others_from)) (TPair components (tree_at s first_to) (tree_at s others_to))) result }
 {
     let alloc = theories.store().allocator();
     let first = first_part(theories, theory, components, term)?;
@@ -182,14 +171,12 @@ fn to_pair<T: Theories>(
     first: Id,
     others: Id,
 ) -> Result<Next, TypeFault>
-    requires theory { IsName (T.stored theories.old) theory }
-    requires first { IsKnownCoercion (T.stored theories.old) (T.declares theories.old theory) context term from first }
-    requires others { IsKnown (T.stored theories.old) (T.declares theories.old theory) OfType others }
+    requires theory { IsName (T.state theories.old).stored theory }
+    requires first { IsCoercionOf (T.state theories.old) theory context term from first }
+    requires others { IsTypeOf (T.state theories.old) theory others }
     requires components { 2 ≤ components }
-    requires ordered { IsOrdered (T.lookups theories.old theory) }
-    ensures ok { IfOk result (Follows (T.lookups theories.old theory) (T.stored theories.new) (T.declares theories.new theory) (coerce_to (T.lookups theories.old theory) (coerce (T.lookups theories.old theory)) (context_at (T.stored theories.old) context.items) (tree_at (T.stored theories.old) term) (tree_at (T.stored theories.old) from) (TPair components (tree_at (T.stored theories.old) first) (tree_at (T.stored theories.old) others))) (coercion_work (T.lookups theories.old theory) (tree_at (T.stored theories.old) from) (TPair components (tree_at (T.stored theories.old) first) (tree_at (T.stored theories.old) others)))) }
-    ensures refused { IfErr result (IsFault (coerce_to (T.lookups theories.old theory) (coerce (T.lookups theories.old theory)) (context_at (T.stored theories.old) context.items) (tree_at (T.stored theories.old) term) (tree_at (T.stored theories.old) from) (TPair components (tree_at (T.stored theories.old) first) (tree_at (T.stored theories.old) others)))) }
-    ensures kept { Keeps (T.stored theories.old) (T.declares theories.old theory) (T.lookups theories.old theory) (T.stored theories.new) (T.declares theories.new theory) (T.lookups theories.new theory) }
+    requires ordered { IsOrdered ((T.state theories.old).lookups theory) }
+    ensures { Steps (T.state theories.old) (T.state theories.new) theory (λ s l. coerce_to l (coerce l) (context_at s context.items) (tree_at s term) (tree_at s from) (TPair components (tree_at s first) (tree_at s others))) (λ s l. coercion_work l (tree_at s from) (TPair components (tree_at s first) (tree_at s others))) result }
 {
     let form = head_of(theories, theory, from)?;
     match known_node(theories, theory, form) {
@@ -226,13 +213,11 @@ fn between_domains<T: Theories>(
     range_from: Id,
     range_to: Id,
 ) -> Result<Next, TypeFault>
-    requires theory { IsName (T.stored theories.old) theory }
-    requires domains { IsKnownCoercion (T.stored theories.old) (T.declares theories.old theory) context term domain_from domain_to }
-    requires ranges { IsKnownCoercion (T.stored theories.old) (T.declares theories.old theory) context term range_from range_to }
-    requires different { tree_eq (tree_at (T.stored theories.old) domain_from) (tree_at (T.stored theories.old) domain_to) ≡ false }
-    ensures ok { IfOk result (Follows (T.lookups theories.old theory) (T.stored theories.new) (T.declares theories.new theory) (coerce_function (coerce (T.lookups theories.old theory)) (context_at (T.stored theories.old) context.items) (tree_at (T.stored theories.old) term) (tree_at (T.stored theories.old) domain_to) (tree_at (T.stored theories.old) range_to) (TFun (tree_at (T.stored theories.old) domain_from) (tree_at (T.stored theories.old) range_from))) (coercion_work (T.lookups theories.old theory) (TFun (tree_at (T.stored theories.old) domain_from) (tree_at (T.stored theories.old) range_from)) (TFun (tree_at (T.stored theories.old) domain_to) (tree_at (T.stored theories.old) range_to)))) }
-    ensures refused { IfErr result (IsFault (coerce_function (coerce (T.lookups theories.old theory)) (context_at (T.stored theories.old) context.items) (tree_at (T.stored theories.old) term) (tree_at (T.stored theories.old) domain_to) (tree_at (T.stored theories.old) range_to) (TFun (tree_at (T.stored theories.old) domain_from) (tree_at (T.stored theories.old) range_from)))) }
-    ensures kept { Keeps (T.stored theories.old) (T.declares theories.old theory) (T.lookups theories.old theory) (T.stored theories.new) (T.declares theories.new theory) (T.lookups theories.new theory) }
+    requires theory { IsName (T.state theories.old).stored theory }
+    requires domains { IsCoercionOf (T.state theories.old) theory context term domain_from domain_to }
+    requires ranges { IsCoercionOf (T.state theories.old) theory context term range_from range_to }
+    requires different { tree_eq (tree_at (T.state theories.old).stored domain_from) (tree_at (T.state theories.old).stored domain_to) ≡ false }
+    ensures { Steps (T.state theories.old) (T.state theories.new) theory (λ s l. coerce_function (coerce l) (context_at s context.items) (tree_at s term) (tree_at s domain_to) (tree_at s range_to) (TFun (tree_at s domain_from) (tree_at s range_from))) (λ s l. coercion_work l (TFun (tree_at s domain_from) (tree_at s range_from)) (TFun (tree_at s domain_to) (tree_at s range_to))) result }
 {
     let alloc = theories.store().allocator();
     let (above_from, above_to) = lift_both(theories, theory, domain_from, domain_to)?;
@@ -273,12 +258,10 @@ fn between_functions<T: Theories>(
     range_from: Id,
     range_to: Id,
 ) -> Result<Next, TypeFault>
-    requires theory { IsName (T.stored theories.old) theory }
-    requires domains { IsKnownCoercion (T.stored theories.old) (T.declares theories.old theory) context term domain_from domain_to }
-    requires ranges { IsKnownCoercion (T.stored theories.old) (T.declares theories.old theory) context term range_from range_to }
-    ensures ok { IfOk result (Follows (T.lookups theories.old theory) (T.stored theories.new) (T.declares theories.new theory) (coerce_function (coerce (T.lookups theories.old theory)) (context_at (T.stored theories.old) context.items) (tree_at (T.stored theories.old) term) (tree_at (T.stored theories.old) domain_to) (tree_at (T.stored theories.old) range_to) (TFun (tree_at (T.stored theories.old) domain_from) (tree_at (T.stored theories.old) range_from))) (coercion_work (T.lookups theories.old theory) (TFun (tree_at (T.stored theories.old) domain_from) (tree_at (T.stored theories.old) range_from)) (TFun (tree_at (T.stored theories.old) domain_to) (tree_at (T.stored theories.old) range_to)))) }
-    ensures refused { IfErr result (IsFault (coerce_function (coerce (T.lookups theories.old theory)) (context_at (T.stored theories.old) context.items) (tree_at (T.stored theories.old) term) (tree_at (T.stored theories.old) domain_to) (tree_at (T.stored theories.old) range_to) (TFun (tree_at (T.stored theories.old) domain_from) (tree_at (T.stored theories.old) range_from)))) }
-    ensures kept { Keeps (T.stored theories.old) (T.declares theories.old theory) (T.lookups theories.old theory) (T.stored theories.new) (T.declares theories.new theory) (T.lookups theories.new theory) }
+    requires theory { IsName (T.state theories.old).stored theory }
+    requires domains { IsCoercionOf (T.state theories.old) theory context term domain_from domain_to }
+    requires ranges { IsCoercionOf (T.state theories.old) theory context term range_from range_to }
+    ensures { Steps (T.state theories.old) (T.state theories.new) theory (λ s l. coerce_function (coerce l) (context_at s context.items) (tree_at s term) (tree_at s domain_to) (tree_at s range_to) (TFun (tree_at s domain_from) (tree_at s range_from))) (λ s l. coercion_work l (TFun (tree_at s domain_from) (tree_at s range_from)) (TFun (tree_at s domain_to) (tree_at s range_to))) result }
 {
     if is_same(theories, domain_from, domain_to) {
         return Ok(Next::One(Task::Apply {
@@ -312,13 +295,11 @@ fn to_function<T: Theories>(
     domain: Id,
     range: Id,
 ) -> Result<Next, TypeFault>
-    requires theory { IsName (T.stored theories.old) theory }
-    requires domain { IsKnownCoercion (T.stored theories.old) (T.declares theories.old theory) context term from domain }
-    requires range { IsKnown (T.stored theories.old) (T.declares theories.old theory) OfType range }
-    requires ordered { IsOrdered (T.lookups theories.old theory) }
-    ensures ok { IfOk result (Follows (T.lookups theories.old theory) (T.stored theories.new) (T.declares theories.new theory) (coerce_to (T.lookups theories.old theory) (coerce (T.lookups theories.old theory)) (context_at (T.stored theories.old) context.items) (tree_at (T.stored theories.old) term) (tree_at (T.stored theories.old) from) (TFun (tree_at (T.stored theories.old) domain) (tree_at (T.stored theories.old) range))) (coercion_work (T.lookups theories.old theory) (tree_at (T.stored theories.old) from) (TFun (tree_at (T.stored theories.old) domain) (tree_at (T.stored theories.old) range)))) }
-    ensures refused { IfErr result (IsFault (coerce_to (T.lookups theories.old theory) (coerce (T.lookups theories.old theory)) (context_at (T.stored theories.old) context.items) (tree_at (T.stored theories.old) term) (tree_at (T.stored theories.old) from) (TFun (tree_at (T.stored theories.old) domain) (tree_at (T.stored theories.old) range)))) }
-    ensures kept { Keeps (T.stored theories.old) (T.declares theories.old theory) (T.lookups theories.old theory) (T.stored theories.new) (T.declares theories.new theory) (T.lookups theories.new theory) }
+    requires theory { IsName (T.state theories.old).stored theory }
+    requires domain { IsCoercionOf (T.state theories.old) theory context term from domain }
+    requires range { IsTypeOf (T.state theories.old) theory range }
+    requires ordered { IsOrdered ((T.state theories.old).lookups theory) }
+    ensures { Steps (T.state theories.old) (T.state theories.new) theory (λ s l. coerce_to l (coerce l) (context_at s context.items) (tree_at s term) (tree_at s from) (TFun (tree_at s domain) (tree_at s range))) (λ s l. coercion_work l (tree_at s from) (TFun (tree_at s domain) (tree_at s range))) result }
 {
     let form = head_of(theories, theory, from)?;
     match known_node(theories, theory, form) {
@@ -348,12 +329,10 @@ fn coerce_to<T: Theories>(
     from: Id,
     to: Id,
 ) -> Result<Next, TypeFault>
-    requires theory { IsName (T.stored theories.old) theory }
-    requires coercion { IsKnownCoercion (T.stored theories.old) (T.declares theories.old theory) context term from to }
-    requires ordered { IsOrdered (T.lookups theories.old theory) }
-    ensures ok { IfOk result (Follows (T.lookups theories.old theory) (T.stored theories.new) (T.declares theories.new theory) (coerce_to (T.lookups theories.old theory) (coerce (T.lookups theories.old theory)) (context_at (T.stored theories.old) context.items) (tree_at (T.stored theories.old) term) (tree_at (T.stored theories.old) from) (tree_at (T.stored theories.old) to)) (coercion_work (T.lookups theories.old theory) (tree_at (T.stored theories.old) from) (tree_at (T.stored theories.old) to))) }
-    ensures refused { IfErr result (IsFault (coerce_to (T.lookups theories.old theory) (coerce (T.lookups theories.old theory)) (context_at (T.stored theories.old) context.items) (tree_at (T.stored theories.old) term) (tree_at (T.stored theories.old) from) (tree_at (T.stored theories.old) to))) }
-    ensures kept { Keeps (T.stored theories.old) (T.declares theories.old theory) (T.lookups theories.old theory) (T.stored theories.new) (T.declares theories.new theory) (T.lookups theories.new theory) }
+    requires theory { IsName (T.state theories.old).stored theory }
+    requires coercion { IsCoercionOf (T.state theories.old) theory context term from to }
+    requires ordered { IsOrdered ((T.state theories.old).lookups theory) }
+    ensures { Steps (T.state theories.old) (T.state theories.new) theory (λ s l. coerce_to l (coerce l) (context_at s context.items) (tree_at s term) (tree_at s from) (tree_at s to)) (λ s l. coercion_work l (tree_at s from) (tree_at s to)) result }
 {
     match known_node(theories, theory, to) {
         Node::TName(r) => {
@@ -388,12 +367,10 @@ fn coerce_step<T: Theories>(
     from: Id,
     to: Id,
 ) -> Result<Next, TypeFault>
-    requires theory { IsName (T.stored theories.old) theory }
-    requires coercion { IsKnownCoercion (T.stored theories.old) (T.declares theories.old theory) context term from to }
-    requires ordered { IsOrdered (T.lookups theories.old theory) }
-    ensures ok { IfOk result (Follows (T.lookups theories.old theory) (T.stored theories.new) (T.declares theories.new theory) (coerce (T.lookups theories.old theory) (context_at (T.stored theories.old) context.items) (tree_at (T.stored theories.old) term) (tree_at (T.stored theories.old) from) (tree_at (T.stored theories.old) to)) (coercion_work (T.lookups theories.old theory) (tree_at (T.stored theories.old) from) (tree_at (T.stored theories.old) to))) }
-    ensures refused { IfErr result (IsFault (coerce (T.lookups theories.old theory) (context_at (T.stored theories.old) context.items) (tree_at (T.stored theories.old) term) (tree_at (T.stored theories.old) from) (tree_at (T.stored theories.old) to))) }
-    ensures kept { Keeps (T.stored theories.old) (T.declares theories.old theory) (T.lookups theories.old theory) (T.stored theories.new) (T.declares theories.new theory) (T.lookups theories.new theory) }
+    requires theory { IsName (T.state theories.old).stored theory }
+    requires coercion { IsCoercionOf (T.state theories.old) theory context term from to }
+    requires ordered { IsOrdered ((T.state theories.old).lookups theory) }
+    ensures { Steps (T.state theories.old) (T.state theories.new) theory (λ s l. coerce l (context_at s context.items) (tree_at s term) (tree_at s from) (tree_at s to)) (λ s l. coercion_work l (tree_at s from) (tree_at s to)) result }
 {
     let _term = known_node(theories, theory, term);
     if is_above(theories, theory, from, to)? {
@@ -411,13 +388,11 @@ fn satisfy_step<T: Theories>(
     predicate: Id,
     term: Id,
 ) -> Result<Next, TypeFault>
-    requires theory { IsName (T.stored theories.old) _theory }
-    requires context { IsKnownContext (T.stored theories.old) (T.declares theories.old _theory) context.items }
-    requires predicate { IsKnown (T.stored theories.old) (T.declares theories.old _theory) OfTerm predicate }
-    requires term { IsKnown (T.stored theories.old) (T.declares theories.old _theory) OfTerm term }
-    ensures ok { IfOk result (Follows (T.lookups theories.old _theory) (T.stored theories.new) (T.declares theories.new _theory) (satisfy_outcome (context_at (T.stored theories.old) context.items) (tree_at (T.stored theories.old) predicate) (tree_at (T.stored theories.old) term)) (1)) }
-    ensures refused { IfErr result (IsFault (satisfy_outcome (context_at (T.stored theories.old) context.items) (tree_at (T.stored theories.old) predicate) (tree_at (T.stored theories.old) term))) }
-    ensures kept { Keeps (T.stored theories.old) (T.declares theories.old _theory) (T.lookups theories.old _theory) (T.stored theories.new) (T.declares theories.new _theory) (T.lookups theories.new _theory) }
+    requires theory { IsName (T.state theories.old).stored _theory }
+    requires context { IsContextOf (T.state theories.old) _theory context.items }
+    requires predicate { IsTermOf (T.state theories.old) _theory predicate }
+    requires term { IsTermOf (T.state theories.old) _theory term }
+    ensures { Steps (T.state theories.old) (T.state theories.new) _theory (λ s _. satisfy_outcome (context_at s context.items) (tree_at s predicate) (tree_at s term)) (λ _ _. 1) result }
 {
     let goal = theories.put_in(predicate, term)?;
     Ok(Next::Owe(Condition { context, goal }))
@@ -434,13 +409,11 @@ fn second_step<T: Theories>(
     from: Id,
     to: Id,
 ) -> Result<Next, TypeFault>
-    requires theory { IsName (T.stored theories.old) theory }
-    requires coercion { IsKnownCoercion (T.stored theories.old) (T.declares theories.old theory) context term from to }
-    requires first { IsKnown (T.stored theories.old) (T.declares theories.old theory) OfTerm first }
+    requires theory { IsName (T.state theories.old).stored theory }
+    requires coercion { IsCoercionOf (T.state theories.old) theory context term from to }
+    requires first { IsTermOf (T.state theories.old) theory first }
     requires components { 2 ≤ components }
-    ensures ok { IfOk result (Follows (T.lookups theories.old theory) (T.stored theories.new) (T.declares theories.new theory) (second_outcome (T.lookups theories.old theory) (context_at (T.stored theories.old) context.items) (tree_at (T.stored theories.old) term) components (tree_at (T.stored theories.old) first) (tree_at (T.stored theories.old) from) (tree_at (T.stored theories.old) to)) (suc (coercion_work (T.lookups theories.old theory) (tree_at (T.stored theories.old) from) (tree_at (T.stored theories.old) to)))) }
-    ensures refused { IfErr result (IsFault (second_outcome (T.lookups theories.old theory) (context_at (T.stored theories.old) context.items) (tree_at (T.stored theories.old) term) components (tree_at (T.stored theories.old) first) (tree_at (T.stored theories.old) from) (tree_at (T.stored theories.old) to))) }
-    ensures kept { Keeps (T.stored theories.old) (T.declares theories.old theory) (T.lookups theories.old theory) (T.stored theories.new) (T.declares theories.new theory) (T.lookups theories.new theory) }
+    ensures { Steps (T.state theories.old) (T.state theories.new) theory (λ s l. second_outcome l (context_at s context.items) (tree_at s term) components (tree_at s first) (tree_at s from) (tree_at s to)) (λ s l. suc (coercion_work l (tree_at s from) (tree_at s to))) result }
 {
     let second = second_part(theories, theory, components, term)?;
     let (second_from, second_to) = substitute_both(theories, theory, from, to, first)?;
@@ -462,12 +435,10 @@ fn apply_step<T: Theories>(
     from: Id,
     to: Id,
 ) -> Result<Next, TypeFault>
-    requires theory { IsName (T.stored theories.old) theory }
-    requires coercion { IsKnownCoercion (T.stored theories.old) (T.declares theories.old theory) context term from to }
-    requires domain { IsKnown (T.stored theories.old) (T.declares theories.old theory) OfType domain }
-    ensures ok { IfOk result (Follows (T.lookups theories.old theory) (T.stored theories.new) (T.declares theories.new theory) (apply_outcome (T.lookups theories.old theory) (context_at (T.stored theories.old) context.items) (tree_at (T.stored theories.old) domain) (tree_at (T.stored theories.old) term) (tree_at (T.stored theories.old) from) (tree_at (T.stored theories.old) to)) (suc (coercion_work (T.lookups theories.old theory) (tree_at (T.stored theories.old) from) (tree_at (T.stored theories.old) to)))) }
-    ensures refused { IfErr result (IsFault (apply_outcome (T.lookups theories.old theory) (context_at (T.stored theories.old) context.items) (tree_at (T.stored theories.old) domain) (tree_at (T.stored theories.old) term) (tree_at (T.stored theories.old) from) (tree_at (T.stored theories.old) to))) }
-    ensures kept { Keeps (T.stored theories.old) (T.declares theories.old theory) (T.lookups theories.old theory) (T.stored theories.new) (T.declares theories.new theory) (T.lookups theories.new theory) }
+    requires theory { IsName (T.state theories.old).stored theory }
+    requires coercion { IsCoercionOf (T.state theories.old) theory context term from to }
+    requires domain { IsTypeOf (T.state theories.old) theory domain }
+    ensures { Steps (T.state theories.old) (T.state theories.new) theory (λ s l. apply_outcome l (context_at s context.items) (tree_at s domain) (tree_at s term) (tree_at s from) (tree_at s to)) (λ s l. suc (coercion_work l (tree_at s from) (tree_at s to))) result }
 {
     let alloc = theories.store().allocator();
     let applied = application(theories, theory, domain, term)?;
@@ -486,12 +457,10 @@ pub(crate) fn step<T: Theories>(
     theory: Name,
     task: Task,
 ) -> Result<Next, TypeFault>
-    requires theory { IsName (T.stored theories.old) theory }
-    requires task { IsKnownTask (T.stored theories.old) (T.declares theories.old theory) task }
-    requires ordered { IsOrdered (T.lookups theories.old theory) }
-    ensures ok { IfOk result (Follows (T.lookups theories.old theory) (T.stored theories.new) (T.declares theories.new theory) (task_outcome (T.lookups theories.old theory) (T.stored theories.old) task) (task_work (T.lookups theories.old theory) (T.stored theories.old) task)) }
-    ensures refused { IfErr result (IsFault (task_outcome (T.lookups theories.old theory) (T.stored theories.old) task)) }
-    ensures kept { Keeps (T.stored theories.old) (T.declares theories.old theory) (T.lookups theories.old theory) (T.stored theories.new) (T.declares theories.new theory) (T.lookups theories.new theory) }
+    requires theory { IsName (T.state theories.old).stored theory }
+    requires task { IsTaskOf (T.state theories.old) theory task }
+    requires ordered { IsOrdered ((T.state theories.old).lookups theory) }
+    ensures { Steps (T.state theories.old) (T.state theories.new) theory (λ s l. task_outcome l s task) (λ s l. task_work l s task) result }
 {
     match task {
         Task::Coerce {

@@ -1,21 +1,15 @@
 //! The types of terms, and whether types are well formed: one recursion on trees, a function for each row.
 
-ghost use Rattle.std.specs.Prelude.{◌≡◌, ◌∷◌, ◌≤◌, length, IfOk};
-ghost use Rattle.pvs_terms.specs.declared.shape.Sort.TheVariants.{OfType, OfTerm};
+ghost use Rattle.std.specs.Prelude.{◌∷◌, ◌≤◌};
 ghost use Rattle.pvs_terms.specs.Tree.{TBool};
 ghost use Rattle.pvs_terms.specs.declared.shape.Joint.TheVariants.{Equal};
 ghost use Rattle.pvs_terms.specs.declared.shape.Projection.TheVariants.{First, Second};
-ghost use Rattle.pvs_terms.specs.Stored.{HasParts, IsNode, node_tree, tree_at};
-ghost use Rattle.pvs_terms.specs.code.Shapes.{shape_of};
-ghost use Rattle.pvs_terms.specs.Tree.{IsWithinLimits};
+ghost use Rattle.pvs_terms.specs.Stored.{tree_at};
 ghost use Rattle.pvs_subst.specs.Contexts.{context_at};
 ghost use Rattle.pvs_types.specs.Typing.{infer, check, well_formed, typing, lambda_infer, apply_infer, tuple_infer, equal_infer, join_infer, project_infer, if_infer, if_check, predicate_check, dependent_well_formed};
-ghost use Rattle.pvs_types.specs.Outcome.{pure};
-ghost use Rattle.pvs_typing.specs.Growth.{EachName, IsKnown, IsKnownItem, Keeps};
-ghost use Rattle.pvs_typing.specs.Nodes.{HasKnownParts};
-ghost use Rattle.pvs_typing.specs.Owed.{conditions_at};
-ghost use Rattle.pvs_typing.specs.Judging.{Answers, IsGiven};
-ghost use Rattle.pvs_typing.specs.code.Rows.{apply_at, apply_to, tuple_second, equal_right, branches, other_branch, else_branch, checked_branches, checked_other, lambda_body, forall_infer, inferred_check};
+ghost use Rattle.pvs_typing.specs.Judging.{Checks, Infers, IsGiven};
+ghost use Rattle.pvs_typing.specs.code.Rows.{apply_at, apply_to, branches, checked_branches, checked_other, else_branch, equal_right, forall_infer, inferred_check, lambda_body, other_branch, tuple_second};
+ghost use Rattle.pvs_typing.specs.State.{IsTypeOf, IsTermOf, IsItemOf};
 
 use crate::coercion::coerce_of;
 use crate::contexts::enter_context;
@@ -40,12 +34,10 @@ fn infer_under<T: Theories>(
     term: Id,
     conditions: &mut Vec<Condition>,
 ) -> Result<Id, TypeFault>
-    requires given { IsGiven (T.stored theories.old) (T.declares theories.old theory) (T.lookups theories.old theory) theory g.now.items conditions.old.items }
-    requires item { IsKnownItem (T.stored theories.old) (T.declares theories.old theory) item }
-    requires term { IsKnown (T.stored theories.old) (T.declares theories.old theory) OfTerm term }
-    ensures answer { Answers (tree_at (T.stored theories.new)) (T.stored theories.new) (T.declares theories.new theory) (conditions_at (T.stored theories.old) conditions.old.items) (infer (T.lookups theories.old theory) (context_at (T.stored theories.old) (item ∷ g.now.items)) (tree_at (T.stored theories.old) term)) conditions.new.items result }
-    ensures known { IfOk result (IsKnown (T.stored theories.new) (T.declares theories.new theory) OfType) }
-    ensures kept { Keeps (T.stored theories.old) (T.declares theories.old theory) (T.lookups theories.old theory) (T.stored theories.new) (T.declares theories.new theory) (T.lookups theories.new theory) }
+    requires given { IsGiven (T.state theories.old) theory g.now.items conditions.old.items }
+    requires item { IsItemOf (T.state theories.old) theory item }
+    requires term { IsTermOf (T.state theories.old) theory term }
+    ensures { Infers (T.state theories.old) (T.state theories.new) theory conditions.old.items conditions.new.items (λ s l. infer l (context_at s (item ∷ g.now.items)) (tree_at s term)) result }
 {
     let alloc = theories.store().allocator();
     let inner = enter_context(alloc, g, item)?;
@@ -63,12 +55,11 @@ fn check_under<T: Theories>(
     ty: Id,
     conditions: &mut Vec<Condition>,
 ) -> Result<(), TypeFault>
-    requires given { IsGiven (T.stored theories.old) (T.declares theories.old theory) (T.lookups theories.old theory) theory g.now.items conditions.old.items }
-    requires item { IsKnownItem (T.stored theories.old) (T.declares theories.old theory) item }
-    requires term { IsKnown (T.stored theories.old) (T.declares theories.old theory) OfTerm term }
-    requires ty { IsKnown (T.stored theories.old) (T.declares theories.old theory) OfType ty }
-    ensures answer { Answers (λ _. tt) (T.stored theories.new) (T.declares theories.new theory) (conditions_at (T.stored theories.old) conditions.old.items) (check (T.lookups theories.old theory) (context_at (T.stored theories.old) (item ∷ g.now.items)) (tree_at (T.stored theories.old) term) (tree_at (T.stored theories.old) ty)) conditions.new.items result }
-    ensures kept { Keeps (T.stored theories.old) (T.declares theories.old theory) (T.lookups theories.old theory) (T.stored theories.new) (T.declares theories.new theory) (T.lookups theories.new theory) }
+    requires given { IsGiven (T.state theories.old) theory g.now.items conditions.old.items }
+    requires item { IsItemOf (T.state theories.old) theory item }
+    requires term { IsTermOf (T.state theories.old) theory term }
+    requires ty { IsTypeOf (T.state theories.old) theory ty }
+    ensures { Checks (T.state theories.old) (T.state theories.new) theory conditions.old.items conditions.new.items (λ s l. check l (context_at s (item ∷ g.now.items)) (tree_at s term) (tree_at s ty)) result }
 {
     let alloc = theories.store().allocator();
     let inner = enter_context(alloc, g, item)?;
@@ -85,11 +76,10 @@ fn formed_under<T: Theories>(
     ty: Id,
     conditions: &mut Vec<Condition>,
 ) -> Result<(), TypeFault>
-    requires given { IsGiven (T.stored theories.old) (T.declares theories.old theory) (T.lookups theories.old theory) theory g.now.items conditions.old.items }
-    requires item { IsKnownItem (T.stored theories.old) (T.declares theories.old theory) item }
-    requires ty { IsKnown (T.stored theories.old) (T.declares theories.old theory) OfType ty }
-    ensures answer { Answers (λ _. tt) (T.stored theories.new) (T.declares theories.new theory) (conditions_at (T.stored theories.old) conditions.old.items) (well_formed (T.lookups theories.old theory) (context_at (T.stored theories.old) (item ∷ g.now.items)) (tree_at (T.stored theories.old) ty)) conditions.new.items result }
-    ensures kept { Keeps (T.stored theories.old) (T.declares theories.old theory) (T.lookups theories.old theory) (T.stored theories.new) (T.declares theories.new theory) (T.lookups theories.new theory) }
+    requires given { IsGiven (T.state theories.old) theory g.now.items conditions.old.items }
+    requires item { IsItemOf (T.state theories.old) theory item }
+    requires ty { IsTypeOf (T.state theories.old) theory ty }
+    ensures { Checks (T.state theories.old) (T.state theories.new) theory conditions.old.items conditions.new.items (λ s l. well_formed l (context_at s (item ∷ g.now.items)) (tree_at s ty)) result }
 {
     let alloc = theories.store().allocator();
     let inner = enter_context(alloc, g, item)?;
@@ -106,12 +96,10 @@ fn lambda_of<T: Theories>(
     body: Id,
     conditions: &mut Vec<Condition>,
 ) -> Result<Id, TypeFault>
-    requires given { IsGiven (T.stored theories.old) (T.declares theories.old theory) (T.lookups theories.old theory) theory g.now.items conditions.old.items }
-    requires domain { IsKnown (T.stored theories.old) (T.declares theories.old theory) OfType domain }
-    requires body { IsKnown (T.stored theories.old) (T.declares theories.old theory) OfTerm body }
-    ensures answer { Answers (tree_at (T.stored theories.new)) (T.stored theories.new) (T.declares theories.new theory) (conditions_at (T.stored theories.old) conditions.old.items) (lambda_infer (tree_at (T.stored theories.old) domain) (typing (T.lookups theories.old theory) (tree_at (T.stored theories.old) domain)) (typing (T.lookups theories.old theory) (tree_at (T.stored theories.old) body)) (context_at (T.stored theories.old) g.now.items)) conditions.new.items result }
-    ensures known { IfOk result (IsKnown (T.stored theories.new) (T.declares theories.new theory) OfType) }
-    ensures kept { Keeps (T.stored theories.old) (T.declares theories.old theory) (T.lookups theories.old theory) (T.stored theories.new) (T.declares theories.new theory) (T.lookups theories.new theory) }
+    requires given { IsGiven (T.state theories.old) theory g.now.items conditions.old.items }
+    requires domain { IsTypeOf (T.state theories.old) theory domain }
+    requires body { IsTermOf (T.state theories.old) theory body }
+    ensures { Infers (T.state theories.old) (T.state theories.new) theory conditions.old.items conditions.new.items (λ s l. lambda_infer (tree_at s domain) (typing l (tree_at s domain)) (typing l (tree_at s body)) (context_at s g.now.items)) result }
 {
     formed_of(theories, theory, g, domain, conditions)?;
     lambda_body(theories, theory, g, domain, body, conditions)
@@ -127,12 +115,10 @@ fn lambda_body<T: Theories>(
     body: Id,
     conditions: &mut Vec<Condition>,
 ) -> Result<Id, TypeFault>
-    requires given { IsGiven (T.stored theories.old) (T.declares theories.old theory) (T.lookups theories.old theory) theory g.now.items conditions.old.items }
-    requires domain { IsKnown (T.stored theories.old) (T.declares theories.old theory) OfType domain }
-    requires body { IsKnown (T.stored theories.old) (T.declares theories.old theory) OfTerm body }
-    ensures answer { Answers (tree_at (T.stored theories.new)) (T.stored theories.new) (T.declares theories.new theory) (conditions_at (T.stored theories.old) conditions.old.items) (lambda_body (T.lookups theories.old theory) (context_at (T.stored theories.old) g.now.items) (tree_at (T.stored theories.old) domain) (tree_at (T.stored theories.old) body)) conditions.new.items result }
-    ensures known { IfOk result (IsKnown (T.stored theories.new) (T.declares theories.new theory) OfType) }
-    ensures kept { Keeps (T.stored theories.old) (T.declares theories.old theory) (T.lookups theories.old theory) (T.stored theories.new) (T.declares theories.new theory) (T.lookups theories.new theory) }
+    requires given { IsGiven (T.state theories.old) theory g.now.items conditions.old.items }
+    requires domain { IsTypeOf (T.state theories.old) theory domain }
+    requires body { IsTermOf (T.state theories.old) theory body }
+    ensures { Infers (T.state theories.old) (T.state theories.new) theory conditions.old.items conditions.new.items (λ s l. lambda_body l (context_at s g.now.items) (tree_at s domain) (tree_at s body)) result }
 {
     let range = infer_under(theories, theory, g, Assumed::Bind(domain), body, conditions)?;
     function_type(theories, theory, domain, range)
@@ -148,12 +134,10 @@ fn apply_of<T: Theories>(
     argument: Id,
     conditions: &mut Vec<Condition>,
 ) -> Result<Id, TypeFault>
-    requires given { IsGiven (T.stored theories.old) (T.declares theories.old theory) (T.lookups theories.old theory) theory g.now.items conditions.old.items }
-    requires function { IsKnown (T.stored theories.old) (T.declares theories.old theory) OfTerm function }
-    requires argument { IsKnown (T.stored theories.old) (T.declares theories.old theory) OfTerm argument }
-    ensures answer { Answers (tree_at (T.stored theories.new)) (T.stored theories.new) (T.declares theories.new theory) (conditions_at (T.stored theories.old) conditions.old.items) (apply_infer (T.lookups theories.old theory) (tree_at (T.stored theories.old) argument) (typing (T.lookups theories.old theory) (tree_at (T.stored theories.old) function)) (typing (T.lookups theories.old theory) (tree_at (T.stored theories.old) argument)) (context_at (T.stored theories.old) g.now.items)) conditions.new.items result }
-    ensures known { IfOk result (IsKnown (T.stored theories.new) (T.declares theories.new theory) OfType) }
-    ensures kept { Keeps (T.stored theories.old) (T.declares theories.old theory) (T.lookups theories.old theory) (T.stored theories.new) (T.declares theories.new theory) (T.lookups theories.new theory) }
+    requires given { IsGiven (T.state theories.old) theory g.now.items conditions.old.items }
+    requires function { IsTermOf (T.state theories.old) theory function }
+    requires argument { IsTermOf (T.state theories.old) theory argument }
+    ensures { Infers (T.state theories.old) (T.state theories.new) theory conditions.old.items conditions.new.items (λ s l. apply_infer l (tree_at s argument) (typing l (tree_at s function)) (typing l (tree_at s argument)) (context_at s g.now.items)) result }
 {
     let ty = infer_of(theories, theory, g, function, conditions)?;
     apply_at(theories, theory, g, argument, ty, conditions)
@@ -169,12 +153,10 @@ fn apply_at<T: Theories>(
     ty: Id,
     conditions: &mut Vec<Condition>,
 ) -> Result<Id, TypeFault>
-    requires given { IsGiven (T.stored theories.old) (T.declares theories.old theory) (T.lookups theories.old theory) theory g.now.items conditions.old.items }
-    requires argument { IsKnown (T.stored theories.old) (T.declares theories.old theory) OfTerm argument }
-    requires ty { IsKnown (T.stored theories.old) (T.declares theories.old theory) OfType ty }
-    ensures answer { Answers (tree_at (T.stored theories.new)) (T.stored theories.new) (T.declares theories.new theory) (conditions_at (T.stored theories.old) conditions.old.items) (apply_at (T.lookups theories.old theory) (context_at (T.stored theories.old) g.now.items) (tree_at (T.stored theories.old) argument) (tree_at (T.stored theories.old) ty)) conditions.new.items result }
-    ensures known { IfOk result (IsKnown (T.stored theories.new) (T.declares theories.new theory) OfType) }
-    ensures kept { Keeps (T.stored theories.old) (T.declares theories.old theory) (T.lookups theories.old theory) (T.stored theories.new) (T.declares theories.new theory) (T.lookups theories.new theory) }
+    requires given { IsGiven (T.state theories.old) theory g.now.items conditions.old.items }
+    requires argument { IsTermOf (T.state theories.old) theory argument }
+    requires ty { IsTypeOf (T.state theories.old) theory ty }
+    ensures { Infers (T.state theories.old) (T.state theories.new) theory conditions.old.items conditions.new.items (λ s l. apply_at l (context_at s g.now.items) (tree_at s argument) (tree_at s ty)) result }
 {
     let parts = function_parts(theories, theory, ty)?;
     apply_to(theories, theory, g, argument, parts.0, parts.1, conditions)
@@ -191,13 +173,11 @@ fn apply_to<T: Theories>(
     range: Id,
     conditions: &mut Vec<Condition>,
 ) -> Result<Id, TypeFault>
-    requires given { IsGiven (T.stored theories.old) (T.declares theories.old theory) (T.lookups theories.old theory) theory g.now.items conditions.old.items }
-    requires argument { IsKnown (T.stored theories.old) (T.declares theories.old theory) OfTerm argument }
-    requires domain { IsKnown (T.stored theories.old) (T.declares theories.old theory) OfType domain }
-    requires range { IsKnown (T.stored theories.old) (T.declares theories.old theory) OfType range }
-    ensures answer { Answers (tree_at (T.stored theories.new)) (T.stored theories.new) (T.declares theories.new theory) (conditions_at (T.stored theories.old) conditions.old.items) (apply_to (T.lookups theories.old theory) (context_at (T.stored theories.old) g.now.items) (tree_at (T.stored theories.old) argument) (tree_at (T.stored theories.old) domain) (tree_at (T.stored theories.old) range)) conditions.new.items result }
-    ensures known { IfOk result (IsKnown (T.stored theories.new) (T.declares theories.new theory) OfType) }
-    ensures kept { Keeps (T.stored theories.old) (T.declares theories.old theory) (T.lookups theories.old theory) (T.stored theories.new) (T.declares theories.new theory) (T.lookups theories.new theory) }
+    requires given { IsGiven (T.state theories.old) theory g.now.items conditions.old.items }
+    requires argument { IsTermOf (T.state theories.old) theory argument }
+    requires domain { IsTypeOf (T.state theories.old) theory domain }
+    requires range { IsTypeOf (T.state theories.old) theory range }
+    ensures { Infers (T.state theories.old) (T.state theories.new) theory conditions.old.items conditions.new.items (λ s l. apply_to l (context_at s g.now.items) (tree_at s argument) (tree_at s domain) (tree_at s range)) result }
 {
     check_of(theories, theory, g, argument, domain, conditions)?;
     substitute(theories, theory, range, argument)
@@ -214,13 +194,11 @@ fn tuple_of<T: Theories>(
     second: Id,
     conditions: &mut Vec<Condition>,
 ) -> Result<Id, TypeFault>
-    requires given { IsGiven (T.stored theories.old) (T.declares theories.old theory) (T.lookups theories.old theory) theory g.now.items conditions.old.items }
+    requires given { IsGiven (T.state theories.old) theory g.now.items conditions.old.items }
     requires tag { 2 ≤ components }
-    requires first { IsKnown (T.stored theories.old) (T.declares theories.old theory) OfTerm first }
-    requires second { IsKnown (T.stored theories.old) (T.declares theories.old theory) OfTerm second }
-    ensures answer { Answers (tree_at (T.stored theories.new)) (T.stored theories.new) (T.declares theories.new theory) (conditions_at (T.stored theories.old) conditions.old.items) (tuple_infer components (typing (T.lookups theories.old theory) (tree_at (T.stored theories.old) first)) (typing (T.lookups theories.old theory) (tree_at (T.stored theories.old) second)) (context_at (T.stored theories.old) g.now.items)) conditions.new.items result }
-    ensures known { IfOk result (IsKnown (T.stored theories.new) (T.declares theories.new theory) OfType) }
-    ensures kept { Keeps (T.stored theories.old) (T.declares theories.old theory) (T.lookups theories.old theory) (T.stored theories.new) (T.declares theories.new theory) (T.lookups theories.new theory) }
+    requires first { IsTermOf (T.state theories.old) theory first }
+    requires second { IsTermOf (T.state theories.old) theory second }
+    ensures { Infers (T.state theories.old) (T.state theories.new) theory conditions.old.items conditions.new.items (λ s l. tuple_infer components (typing l (tree_at s first)) (typing l (tree_at s second)) (context_at s g.now.items)) result }
 {
     let ty = infer_of(theories, theory, g, first, conditions)?;
     tuple_second(theories, theory, g, components, second, ty, conditions)
@@ -237,13 +215,11 @@ fn tuple_second<T: Theories>(
     first_type: Id,
     conditions: &mut Vec<Condition>,
 ) -> Result<Id, TypeFault>
-    requires given { IsGiven (T.stored theories.old) (T.declares theories.old theory) (T.lookups theories.old theory) theory g.now.items conditions.old.items }
+    requires given { IsGiven (T.state theories.old) theory g.now.items conditions.old.items }
     requires tag { 2 ≤ components }
-    requires second { IsKnown (T.stored theories.old) (T.declares theories.old theory) OfTerm second }
-    requires first_type { IsKnown (T.stored theories.old) (T.declares theories.old theory) OfType first_type }
-    ensures answer { Answers (tree_at (T.stored theories.new)) (T.stored theories.new) (T.declares theories.new theory) (conditions_at (T.stored theories.old) conditions.old.items) (tuple_second (T.lookups theories.old theory) (context_at (T.stored theories.old) g.now.items) components (tree_at (T.stored theories.old) second) (tree_at (T.stored theories.old) first_type)) conditions.new.items result }
-    ensures known { IfOk result (IsKnown (T.stored theories.new) (T.declares theories.new theory) OfType) }
-    ensures kept { Keeps (T.stored theories.old) (T.declares theories.old theory) (T.lookups theories.old theory) (T.stored theories.new) (T.declares theories.new theory) (T.lookups theories.new theory) }
+    requires second { IsTermOf (T.state theories.old) theory second }
+    requires first_type { IsTypeOf (T.state theories.old) theory first_type }
+    ensures { Infers (T.state theories.old) (T.state theories.new) theory conditions.old.items conditions.new.items (λ s l. tuple_second l (context_at s g.now.items) components (tree_at s second) (tree_at s first_type)) result }
 {
     let second_type = infer_of(theories, theory, g, second, conditions)?;
     tuple_type(theories, theory, components, first_type, second_type)
@@ -259,12 +235,10 @@ fn equation_of<T: Theories>(
     right: Id,
     conditions: &mut Vec<Condition>,
 ) -> Result<Id, TypeFault>
-    requires given { IsGiven (T.stored theories.old) (T.declares theories.old theory) (T.lookups theories.old theory) theory g.now.items conditions.old.items }
-    requires left { IsKnown (T.stored theories.old) (T.declares theories.old theory) OfTerm left }
-    requires right { IsKnown (T.stored theories.old) (T.declares theories.old theory) OfTerm right }
-    ensures answer { Answers (tree_at (T.stored theories.new)) (T.stored theories.new) (T.declares theories.new theory) (conditions_at (T.stored theories.old) conditions.old.items) (join_infer (T.lookups theories.old theory) Equal (tree_at (T.stored theories.old) left) (tree_at (T.stored theories.old) right) (typing (T.lookups theories.old theory) (tree_at (T.stored theories.old) left)) (typing (T.lookups theories.old theory) (tree_at (T.stored theories.old) right)) (context_at (T.stored theories.old) g.now.items)) conditions.new.items result }
-    ensures known { IfOk result (IsKnown (T.stored theories.new) (T.declares theories.new theory) OfType) }
-    ensures kept { Keeps (T.stored theories.old) (T.declares theories.old theory) (T.lookups theories.old theory) (T.stored theories.new) (T.declares theories.new theory) (T.lookups theories.new theory) }
+    requires given { IsGiven (T.state theories.old) theory g.now.items conditions.old.items }
+    requires left { IsTermOf (T.state theories.old) theory left }
+    requires right { IsTermOf (T.state theories.old) theory right }
+    ensures { Infers (T.state theories.old) (T.state theories.new) theory conditions.old.items conditions.new.items (λ s l. join_infer l Equal (tree_at s left) (tree_at s right) (typing l (tree_at s left)) (typing l (tree_at s right)) (context_at s g.now.items)) result }
 {
     match forall_parts(theories, theory, left, right) {
         Some((domain, predicate)) => forall_of(theories, theory, g, domain, predicate, conditions),
@@ -282,12 +256,10 @@ fn forall_of<T: Theories>(
     predicate: Id,
     conditions: &mut Vec<Condition>,
 ) -> Result<Id, TypeFault>
-    requires given { IsGiven (T.stored theories.old) (T.declares theories.old theory) (T.lookups theories.old theory) theory g.now.items conditions.old.items }
-    requires domain { IsKnown (T.stored theories.old) (T.declares theories.old theory) OfType domain }
-    requires predicate { IsKnown (T.stored theories.old) (T.declares theories.old theory) OfTerm predicate }
-    ensures answer { Answers (tree_at (T.stored theories.new)) (T.stored theories.new) (T.declares theories.new theory) (conditions_at (T.stored theories.old) conditions.old.items) (forall_infer (T.lookups theories.old theory) (context_at (T.stored theories.old) g.now.items) (tree_at (T.stored theories.old) domain) (tree_at (T.stored theories.old) predicate)) conditions.new.items result }
-    ensures known { IfOk result (IsKnown (T.stored theories.new) (T.declares theories.new theory) OfType) }
-    ensures kept { Keeps (T.stored theories.old) (T.declares theories.old theory) (T.lookups theories.old theory) (T.stored theories.new) (T.declares theories.new theory) (T.lookups theories.new theory) }
+    requires given { IsGiven (T.state theories.old) theory g.now.items conditions.old.items }
+    requires domain { IsTypeOf (T.state theories.old) theory domain }
+    requires predicate { IsTermOf (T.state theories.old) theory predicate }
+    ensures { Infers (T.state theories.old) (T.state theories.new) theory conditions.old.items conditions.new.items (λ s l. forall_infer l (context_at s g.now.items) (tree_at s domain) (tree_at s predicate)) result }
 {
     predicate_of(theories, theory, g, domain, predicate, conditions)?;
     truth_type(theories, theory)
@@ -303,12 +275,10 @@ fn equal_of<T: Theories>(
     right: Id,
     conditions: &mut Vec<Condition>,
 ) -> Result<Id, TypeFault>
-    requires given { IsGiven (T.stored theories.old) (T.declares theories.old theory) (T.lookups theories.old theory) theory g.now.items conditions.old.items }
-    requires left { IsKnown (T.stored theories.old) (T.declares theories.old theory) OfTerm left }
-    requires right { IsKnown (T.stored theories.old) (T.declares theories.old theory) OfTerm right }
-    ensures answer { Answers (tree_at (T.stored theories.new)) (T.stored theories.new) (T.declares theories.new theory) (conditions_at (T.stored theories.old) conditions.old.items) (equal_infer (T.lookups theories.old theory) (tree_at (T.stored theories.old) left) (tree_at (T.stored theories.old) right) (typing (T.lookups theories.old theory) (tree_at (T.stored theories.old) left)) (typing (T.lookups theories.old theory) (tree_at (T.stored theories.old) right)) (context_at (T.stored theories.old) g.now.items)) conditions.new.items result }
-    ensures known { IfOk result (IsKnown (T.stored theories.new) (T.declares theories.new theory) OfType) }
-    ensures kept { Keeps (T.stored theories.old) (T.declares theories.old theory) (T.lookups theories.old theory) (T.stored theories.new) (T.declares theories.new theory) (T.lookups theories.new theory) }
+    requires given { IsGiven (T.state theories.old) theory g.now.items conditions.old.items }
+    requires left { IsTermOf (T.state theories.old) theory left }
+    requires right { IsTermOf (T.state theories.old) theory right }
+    ensures { Infers (T.state theories.old) (T.state theories.new) theory conditions.old.items conditions.new.items (λ s l. equal_infer l (tree_at s left) (tree_at s right) (typing l (tree_at s left)) (typing l (tree_at s right)) (context_at s g.now.items)) result }
 {
     let ty = infer_of(theories, theory, g, left, conditions)?;
     equal_right(theories, theory, g, left, right, ty, conditions)
@@ -325,13 +295,11 @@ fn equal_right<T: Theories>(
     left_type: Id,
     conditions: &mut Vec<Condition>,
 ) -> Result<Id, TypeFault>
-    requires given { IsGiven (T.stored theories.old) (T.declares theories.old theory) (T.lookups theories.old theory) theory g.now.items conditions.old.items }
-    requires left { IsKnown (T.stored theories.old) (T.declares theories.old theory) OfTerm left }
-    requires right { IsKnown (T.stored theories.old) (T.declares theories.old theory) OfTerm right }
-    requires left_type { IsKnown (T.stored theories.old) (T.declares theories.old theory) OfType left_type }
-    ensures answer { Answers (tree_at (T.stored theories.new)) (T.stored theories.new) (T.declares theories.new theory) (conditions_at (T.stored theories.old) conditions.old.items) (equal_right (T.lookups theories.old theory) (context_at (T.stored theories.old) g.now.items) (tree_at (T.stored theories.old) left) (tree_at (T.stored theories.old) right) (tree_at (T.stored theories.old) left_type)) conditions.new.items result }
-    ensures known { IfOk result (IsKnown (T.stored theories.new) (T.declares theories.new theory) OfType) }
-    ensures kept { Keeps (T.stored theories.old) (T.declares theories.old theory) (T.lookups theories.old theory) (T.stored theories.new) (T.declares theories.new theory) (T.lookups theories.new theory) }
+    requires given { IsGiven (T.state theories.old) theory g.now.items conditions.old.items }
+    requires left { IsTermOf (T.state theories.old) theory left }
+    requires right { IsTermOf (T.state theories.old) theory right }
+    requires left_type { IsTypeOf (T.state theories.old) theory left_type }
+    ensures { Infers (T.state theories.old) (T.state theories.new) theory conditions.old.items conditions.new.items (λ s l. equal_right l (context_at s g.now.items) (tree_at s left) (tree_at s right) (tree_at s left_type)) result }
 {
     let right_type = infer_of(theories, theory, g, right, conditions)?;
     equal_sides(
@@ -349,11 +317,9 @@ fn first_of<T: Theories>(
     tuple: Id,
     conditions: &mut Vec<Condition>,
 ) -> Result<Id, TypeFault>
-    requires given { IsGiven (T.stored theories.old) (T.declares theories.old theory) (T.lookups theories.old theory) theory g.now.items conditions.old.items }
-    requires tuple { IsKnown (T.stored theories.old) (T.declares theories.old theory) OfTerm tuple }
-    ensures answer { Answers (tree_at (T.stored theories.new)) (T.stored theories.new) (T.declares theories.new theory) (conditions_at (T.stored theories.old) conditions.old.items) (project_infer (T.lookups theories.old theory) (First components) (tree_at (T.stored theories.old) tuple) (typing (T.lookups theories.old theory) (tree_at (T.stored theories.old) tuple)) (context_at (T.stored theories.old) g.now.items)) conditions.new.items result }
-    ensures known { IfOk result (IsKnown (T.stored theories.new) (T.declares theories.new theory) OfType) }
-    ensures kept { Keeps (T.stored theories.old) (T.declares theories.old theory) (T.lookups theories.old theory) (T.stored theories.new) (T.declares theories.new theory) (T.lookups theories.new theory) }
+    requires given { IsGiven (T.state theories.old) theory g.now.items conditions.old.items }
+    requires tuple { IsTermOf (T.state theories.old) theory tuple }
+    ensures { Infers (T.state theories.old) (T.state theories.new) theory conditions.old.items conditions.new.items (λ s l. project_infer l (First components) (tree_at s tuple) (typing l (tree_at s tuple)) (context_at s g.now.items)) result }
 {
     let ty = infer_of(theories, theory, g, tuple, conditions)?;
     first_type(theories, theory, components, ty)
@@ -369,12 +335,10 @@ fn second_of<T: Theories>(
     tuple: Id,
     conditions: &mut Vec<Condition>,
 ) -> Result<Id, TypeFault>
-    requires given { IsGiven (T.stored theories.old) (T.declares theories.old theory) (T.lookups theories.old theory) theory g.now.items conditions.old.items }
+    requires given { IsGiven (T.state theories.old) theory g.now.items conditions.old.items }
     requires tag { 2 ≤ components }
-    requires tuple { IsKnown (T.stored theories.old) (T.declares theories.old theory) OfTerm tuple }
-    ensures answer { Answers (tree_at (T.stored theories.new)) (T.stored theories.new) (T.declares theories.new theory) (conditions_at (T.stored theories.old) conditions.old.items) (project_infer (T.lookups theories.old theory) (Second components) (tree_at (T.stored theories.old) tuple) (typing (T.lookups theories.old theory) (tree_at (T.stored theories.old) tuple)) (context_at (T.stored theories.old) g.now.items)) conditions.new.items result }
-    ensures known { IfOk result (IsKnown (T.stored theories.new) (T.declares theories.new theory) OfType) }
-    ensures kept { Keeps (T.stored theories.old) (T.declares theories.old theory) (T.lookups theories.old theory) (T.stored theories.new) (T.declares theories.new theory) (T.lookups theories.new theory) }
+    requires tuple { IsTermOf (T.state theories.old) theory tuple }
+    ensures { Infers (T.state theories.old) (T.state theories.new) theory conditions.old.items conditions.new.items (λ s l. project_infer l (Second components) (tree_at s tuple) (typing l (tree_at s tuple)) (context_at s g.now.items)) result }
 {
     let ty = infer_of(theories, theory, g, tuple, conditions)?;
     second_type(theories, theory, components, tuple, ty)
@@ -389,10 +353,9 @@ fn condition_of<T: Theories>(
     condition: Id,
     conditions: &mut Vec<Condition>,
 ) -> Result<(), TypeFault>
-    requires given { IsGiven (T.stored theories.old) (T.declares theories.old theory) (T.lookups theories.old theory) theory g.now.items conditions.old.items }
-    requires condition { IsKnown (T.stored theories.old) (T.declares theories.old theory) OfTerm condition }
-    ensures answer { Answers (λ _. tt) (T.stored theories.new) (T.declares theories.new theory) (conditions_at (T.stored theories.old) conditions.old.items) (check (T.lookups theories.old theory) (context_at (T.stored theories.old) g.now.items) (tree_at (T.stored theories.old) condition) TBool) conditions.new.items result }
-    ensures kept { Keeps (T.stored theories.old) (T.declares theories.old theory) (T.lookups theories.old theory) (T.stored theories.new) (T.declares theories.new theory) (T.lookups theories.new theory) }
+    requires given { IsGiven (T.state theories.old) theory g.now.items conditions.old.items }
+    requires condition { IsTermOf (T.state theories.old) theory condition }
+    ensures { Checks (T.state theories.old) (T.state theories.new) theory conditions.old.items conditions.new.items (λ s l. check l (context_at s g.now.items) (tree_at s condition) TBool) result }
 {
     let truth = truth_type(theories, theory)?;
     check_of(theories, theory, g, condition, truth, conditions)
@@ -409,13 +372,11 @@ fn if_of<T: Theories>(
     second: Id,
     conditions: &mut Vec<Condition>,
 ) -> Result<Id, TypeFault>
-    requires given { IsGiven (T.stored theories.old) (T.declares theories.old theory) (T.lookups theories.old theory) theory g.now.items conditions.old.items }
-    requires condition { IsKnown (T.stored theories.old) (T.declares theories.old theory) OfTerm condition }
-    requires first { IsKnown (T.stored theories.old) (T.declares theories.old theory) OfTerm first }
-    requires second { IsKnown (T.stored theories.old) (T.declares theories.old theory) OfTerm second }
-    ensures answer { Answers (tree_at (T.stored theories.new)) (T.stored theories.new) (T.declares theories.new theory) (conditions_at (T.stored theories.old) conditions.old.items) (if_infer (T.lookups theories.old theory) (tree_at (T.stored theories.old) condition) (tree_at (T.stored theories.old) first) (tree_at (T.stored theories.old) second) (typing (T.lookups theories.old theory) (tree_at (T.stored theories.old) condition)) (typing (T.lookups theories.old theory) (tree_at (T.stored theories.old) first)) (typing (T.lookups theories.old theory) (tree_at (T.stored theories.old) second)) (context_at (T.stored theories.old) g.now.items)) conditions.new.items result }
-    ensures known { IfOk result (IsKnown (T.stored theories.new) (T.declares theories.new theory) OfType) }
-    ensures kept { Keeps (T.stored theories.old) (T.declares theories.old theory) (T.lookups theories.old theory) (T.stored theories.new) (T.declares theories.new theory) (T.lookups theories.new theory) }
+    requires given { IsGiven (T.state theories.old) theory g.now.items conditions.old.items }
+    requires condition { IsTermOf (T.state theories.old) theory condition }
+    requires first { IsTermOf (T.state theories.old) theory first }
+    requires second { IsTermOf (T.state theories.old) theory second }
+    ensures { Infers (T.state theories.old) (T.state theories.new) theory conditions.old.items conditions.new.items (λ s l. if_infer l (tree_at s condition) (tree_at s first) (tree_at s second) (typing l (tree_at s condition)) (typing l (tree_at s first)) (typing l (tree_at s second)) (context_at s g.now.items)) result }
 {
     condition_of(theories, theory, g, condition, conditions)?;
     branches(theories, theory, g, condition, first, second, conditions)
@@ -432,13 +393,11 @@ fn branches<T: Theories>(
     second: Id,
     conditions: &mut Vec<Condition>,
 ) -> Result<Id, TypeFault>
-    requires given { IsGiven (T.stored theories.old) (T.declares theories.old theory) (T.lookups theories.old theory) theory g.now.items conditions.old.items }
-    requires condition { IsKnown (T.stored theories.old) (T.declares theories.old theory) OfTerm condition }
-    requires first { IsKnown (T.stored theories.old) (T.declares theories.old theory) OfTerm first }
-    requires second { IsKnown (T.stored theories.old) (T.declares theories.old theory) OfTerm second }
-    ensures answer { Answers (tree_at (T.stored theories.new)) (T.stored theories.new) (T.declares theories.new theory) (conditions_at (T.stored theories.old) conditions.old.items) (branches (T.lookups theories.old theory) (context_at (T.stored theories.old) g.now.items) (tree_at (T.stored theories.old) condition) (tree_at (T.stored theories.old) first) (tree_at (T.stored theories.old) second)) conditions.new.items result }
-    ensures known { IfOk result (IsKnown (T.stored theories.new) (T.declares theories.new theory) OfType) }
-    ensures kept { Keeps (T.stored theories.old) (T.declares theories.old theory) (T.lookups theories.old theory) (T.stored theories.new) (T.declares theories.new theory) (T.lookups theories.new theory) }
+    requires given { IsGiven (T.state theories.old) theory g.now.items conditions.old.items }
+    requires condition { IsTermOf (T.state theories.old) theory condition }
+    requires first { IsTermOf (T.state theories.old) theory first }
+    requires second { IsTermOf (T.state theories.old) theory second }
+    ensures { Infers (T.state theories.old) (T.state theories.new) theory conditions.old.items conditions.new.items (λ s l. branches l (context_at s g.now.items) (tree_at s condition) (tree_at s first) (tree_at s second)) result }
 {
     let ty = infer_under(
         theories,
@@ -465,14 +424,12 @@ fn other_branch<T: Theories>(
     first_type: Id,
     conditions: &mut Vec<Condition>,
 ) -> Result<Id, TypeFault>
-    requires given { IsGiven (T.stored theories.old) (T.declares theories.old theory) (T.lookups theories.old theory) theory g.now.items conditions.old.items }
-    requires condition { IsKnown (T.stored theories.old) (T.declares theories.old theory) OfTerm condition }
-    requires first { IsKnown (T.stored theories.old) (T.declares theories.old theory) OfTerm first }
-    requires second { IsKnown (T.stored theories.old) (T.declares theories.old theory) OfTerm second }
-    requires first_type { IsKnown (T.stored theories.old) (T.declares theories.old theory) OfType first_type }
-    ensures answer { Answers (tree_at (T.stored theories.new)) (T.stored theories.new) (T.declares theories.new theory) (conditions_at (T.stored theories.old) conditions.old.items) (other_branch (T.lookups theories.old theory) (context_at (T.stored theories.old) g.now.items) (tree_at (T.stored theories.old) condition) (tree_at (T.stored theories.old) first) (tree_at (T.stored theories.old) second) (tree_at (T.stored theories.old) first_type)) conditions.new.items result }
-    ensures known { IfOk result (IsKnown (T.stored theories.new) (T.declares theories.new theory) OfType) }
-    ensures kept { Keeps (T.stored theories.old) (T.declares theories.old theory) (T.lookups theories.old theory) (T.stored theories.new) (T.declares theories.new theory) (T.lookups theories.new theory) }
+    requires given { IsGiven (T.state theories.old) theory g.now.items conditions.old.items }
+    requires condition { IsTermOf (T.state theories.old) theory condition }
+    requires first { IsTermOf (T.state theories.old) theory first }
+    requires second { IsTermOf (T.state theories.old) theory second }
+    requires first_type { IsTypeOf (T.state theories.old) theory first_type }
+    ensures { Infers (T.state theories.old) (T.state theories.new) theory conditions.old.items conditions.new.items (λ s l. other_branch l (context_at s g.now.items) (tree_at s condition) (tree_at s first) (tree_at s second) (tree_at s first_type)) result }
 {
     let negation = negated(theories, theory, condition)?;
     else_branch(
@@ -493,15 +450,13 @@ fn else_branch<T: Theories>(
     first_type: Id,
     conditions: &mut Vec<Condition>,
 ) -> Result<Id, TypeFault>
-    requires given { IsGiven (T.stored theories.old) (T.declares theories.old theory) (T.lookups theories.old theory) theory g.now.items conditions.old.items }
-    requires condition { IsKnown (T.stored theories.old) (T.declares theories.old theory) OfTerm condition }
-    requires negation { IsKnown (T.stored theories.old) (T.declares theories.old theory) OfTerm negation }
-    requires first { IsKnown (T.stored theories.old) (T.declares theories.old theory) OfTerm first }
-    requires second { IsKnown (T.stored theories.old) (T.declares theories.old theory) OfTerm second }
-    requires first_type { IsKnown (T.stored theories.old) (T.declares theories.old theory) OfType first_type }
-    ensures answer { Answers (tree_at (T.stored theories.new)) (T.stored theories.new) (T.declares theories.new theory) (conditions_at (T.stored theories.old) conditions.old.items) (else_branch (T.lookups theories.old theory) (context_at (T.stored theories.old) g.now.items) (tree_at (T.stored theories.old) condition) (tree_at (T.stored theories.old) negation) (tree_at (T.stored theories.old) first) (tree_at (T.stored theories.old) second) (tree_at (T.stored theories.old) first_type)) conditions.new.items result }
-    ensures known { IfOk result (IsKnown (T.stored theories.new) (T.declares theories.new theory) OfType) }
-    ensures kept { Keeps (T.stored theories.old) (T.declares theories.old theory) (T.lookups theories.old theory) (T.stored theories.new) (T.declares theories.new theory) (T.lookups theories.new theory) }
+    requires given { IsGiven (T.state theories.old) theory g.now.items conditions.old.items }
+    requires condition { IsTermOf (T.state theories.old) theory condition }
+    requires negation { IsTermOf (T.state theories.old) theory negation }
+    requires first { IsTermOf (T.state theories.old) theory first }
+    requires second { IsTermOf (T.state theories.old) theory second }
+    requires first_type { IsTypeOf (T.state theories.old) theory first_type }
+    ensures { Infers (T.state theories.old) (T.state theories.new) theory conditions.old.items conditions.new.items (λ s l. else_branch l (context_at s g.now.items) (tree_at s condition) (tree_at s negation) (tree_at s first) (tree_at s second) (tree_at s first_type)) result }
 {
     let second_type = infer_under(
         theories,
@@ -537,13 +492,12 @@ fn if_check<T: Theories>(
     ty: Id,
     conditions: &mut Vec<Condition>,
 ) -> Result<(), TypeFault>
-    requires given { IsGiven (T.stored theories.old) (T.declares theories.old theory) (T.lookups theories.old theory) theory g.now.items conditions.old.items }
-    requires condition { IsKnown (T.stored theories.old) (T.declares theories.old theory) OfTerm condition }
-    requires first { IsKnown (T.stored theories.old) (T.declares theories.old theory) OfTerm first }
-    requires second { IsKnown (T.stored theories.old) (T.declares theories.old theory) OfTerm second }
-    requires ty { IsKnown (T.stored theories.old) (T.declares theories.old theory) OfType ty }
-    ensures answer { Answers (λ _. tt) (T.stored theories.new) (T.declares theories.new theory) (conditions_at (T.stored theories.old) conditions.old.items) (if_check (tree_at (T.stored theories.old) condition) (typing (T.lookups theories.old theory) (tree_at (T.stored theories.old) condition)) (typing (T.lookups theories.old theory) (tree_at (T.stored theories.old) first)) (typing (T.lookups theories.old theory) (tree_at (T.stored theories.old) second)) (context_at (T.stored theories.old) g.now.items) (tree_at (T.stored theories.old) ty)) conditions.new.items result }
-    ensures kept { Keeps (T.stored theories.old) (T.declares theories.old theory) (T.lookups theories.old theory) (T.stored theories.new) (T.declares theories.new theory) (T.lookups theories.new theory) }
+    requires given { IsGiven (T.state theories.old) theory g.now.items conditions.old.items }
+    requires condition { IsTermOf (T.state theories.old) theory condition }
+    requires first { IsTermOf (T.state theories.old) theory first }
+    requires second { IsTermOf (T.state theories.old) theory second }
+    requires ty { IsTypeOf (T.state theories.old) theory ty }
+    ensures { Checks (T.state theories.old) (T.state theories.new) theory conditions.old.items conditions.new.items (λ s l. if_check (tree_at s condition) (typing l (tree_at s condition)) (typing l (tree_at s first)) (typing l (tree_at s second)) (context_at s g.now.items) (tree_at s ty)) result }
 {
     condition_of(theories, theory, g, condition, conditions)?;
     checked_branches(
@@ -563,13 +517,12 @@ fn checked_branches<T: Theories>(
     ty: Id,
     conditions: &mut Vec<Condition>,
 ) -> Result<(), TypeFault>
-    requires given { IsGiven (T.stored theories.old) (T.declares theories.old theory) (T.lookups theories.old theory) theory g.now.items conditions.old.items }
-    requires condition { IsKnown (T.stored theories.old) (T.declares theories.old theory) OfTerm condition }
-    requires first { IsKnown (T.stored theories.old) (T.declares theories.old theory) OfTerm first }
-    requires second { IsKnown (T.stored theories.old) (T.declares theories.old theory) OfTerm second }
-    requires ty { IsKnown (T.stored theories.old) (T.declares theories.old theory) OfType ty }
-    ensures answer { Answers (λ _. tt) (T.stored theories.new) (T.declares theories.new theory) (conditions_at (T.stored theories.old) conditions.old.items) (checked_branches (T.lookups theories.old theory) (context_at (T.stored theories.old) g.now.items) (tree_at (T.stored theories.old) condition) (tree_at (T.stored theories.old) first) (tree_at (T.stored theories.old) second) (tree_at (T.stored theories.old) ty)) conditions.new.items result }
-    ensures kept { Keeps (T.stored theories.old) (T.declares theories.old theory) (T.lookups theories.old theory) (T.stored theories.new) (T.declares theories.new theory) (T.lookups theories.new theory) }
+    requires given { IsGiven (T.state theories.old) theory g.now.items conditions.old.items }
+    requires condition { IsTermOf (T.state theories.old) theory condition }
+    requires first { IsTermOf (T.state theories.old) theory first }
+    requires second { IsTermOf (T.state theories.old) theory second }
+    requires ty { IsTypeOf (T.state theories.old) theory ty }
+    ensures { Checks (T.state theories.old) (T.state theories.new) theory conditions.old.items conditions.new.items (λ s l. checked_branches l (context_at s g.now.items) (tree_at s condition) (tree_at s first) (tree_at s second) (tree_at s ty)) result }
 {
     check_under(
         theories,
@@ -594,12 +547,11 @@ fn checked_other<T: Theories>(
     ty: Id,
     conditions: &mut Vec<Condition>,
 ) -> Result<(), TypeFault>
-    requires given { IsGiven (T.stored theories.old) (T.declares theories.old theory) (T.lookups theories.old theory) theory g.now.items conditions.old.items }
-    requires condition { IsKnown (T.stored theories.old) (T.declares theories.old theory) OfTerm condition }
-    requires second { IsKnown (T.stored theories.old) (T.declares theories.old theory) OfTerm second }
-    requires ty { IsKnown (T.stored theories.old) (T.declares theories.old theory) OfType ty }
-    ensures answer { Answers (λ _. tt) (T.stored theories.new) (T.declares theories.new theory) (conditions_at (T.stored theories.old) conditions.old.items) (checked_other (T.lookups theories.old theory) (context_at (T.stored theories.old) g.now.items) (tree_at (T.stored theories.old) condition) (tree_at (T.stored theories.old) second) (tree_at (T.stored theories.old) ty)) conditions.new.items result }
-    ensures kept { Keeps (T.stored theories.old) (T.declares theories.old theory) (T.lookups theories.old theory) (T.stored theories.new) (T.declares theories.new theory) (T.lookups theories.new theory) }
+    requires given { IsGiven (T.state theories.old) theory g.now.items conditions.old.items }
+    requires condition { IsTermOf (T.state theories.old) theory condition }
+    requires second { IsTermOf (T.state theories.old) theory second }
+    requires ty { IsTypeOf (T.state theories.old) theory ty }
+    ensures { Checks (T.state theories.old) (T.state theories.new) theory conditions.old.items conditions.new.items (λ s l. checked_other l (context_at s g.now.items) (tree_at s condition) (tree_at s second) (tree_at s ty)) result }
 {
     let otherwise = negated(theories, theory, condition)?;
     check_under(
@@ -623,11 +575,10 @@ fn predicate_of<T: Theories>(
     predicate: Id,
     conditions: &mut Vec<Condition>,
 ) -> Result<(), TypeFault>
-    requires given { IsGiven (T.stored theories.old) (T.declares theories.old theory) (T.lookups theories.old theory) theory g.now.items conditions.old.items }
-    requires domain { IsKnown (T.stored theories.old) (T.declares theories.old theory) OfType domain }
-    requires predicate { IsKnown (T.stored theories.old) (T.declares theories.old theory) OfTerm predicate }
-    ensures answer { Answers (λ _. tt) (T.stored theories.new) (T.declares theories.new theory) (conditions_at (T.stored theories.old) conditions.old.items) (predicate_check (tree_at (T.stored theories.old) domain) (typing (T.lookups theories.old theory) (tree_at (T.stored theories.old) domain)) (typing (T.lookups theories.old theory) (tree_at (T.stored theories.old) predicate)) (context_at (T.stored theories.old) g.now.items)) conditions.new.items result }
-    ensures kept { Keeps (T.stored theories.old) (T.declares theories.old theory) (T.lookups theories.old theory) (T.stored theories.new) (T.declares theories.new theory) (T.lookups theories.new theory) }
+    requires given { IsGiven (T.state theories.old) theory g.now.items conditions.old.items }
+    requires domain { IsTypeOf (T.state theories.old) theory domain }
+    requires predicate { IsTermOf (T.state theories.old) theory predicate }
+    ensures { Checks (T.state theories.old) (T.state theories.new) theory conditions.old.items conditions.new.items (λ s l. predicate_check (tree_at s domain) (typing l (tree_at s domain)) (typing l (tree_at s predicate)) (context_at s g.now.items)) result }
 {
     formed_of(theories, theory, g, domain, conditions)?;
     predicate_body(theories, theory, g, domain, predicate, conditions)
@@ -643,11 +594,10 @@ fn predicate_body<T: Theories>(
     predicate: Id,
     conditions: &mut Vec<Condition>,
 ) -> Result<(), TypeFault>
-    requires given { IsGiven (T.stored theories.old) (T.declares theories.old theory) (T.lookups theories.old theory) theory g.now.items conditions.old.items }
-    requires domain { IsKnown (T.stored theories.old) (T.declares theories.old theory) OfType domain }
-    requires predicate { IsKnown (T.stored theories.old) (T.declares theories.old theory) OfTerm predicate }
-    ensures answer { Answers (λ _. tt) (T.stored theories.new) (T.declares theories.new theory) (conditions_at (T.stored theories.old) conditions.old.items) (check (T.lookups theories.old theory) (context_at (T.stored theories.old) (Assumed.Bind domain ∷ g.now.items)) (tree_at (T.stored theories.old) predicate) TBool) conditions.new.items result }
-    ensures kept { Keeps (T.stored theories.old) (T.declares theories.old theory) (T.lookups theories.old theory) (T.stored theories.new) (T.declares theories.new theory) (T.lookups theories.new theory) }
+    requires given { IsGiven (T.state theories.old) theory g.now.items conditions.old.items }
+    requires domain { IsTypeOf (T.state theories.old) theory domain }
+    requires predicate { IsTermOf (T.state theories.old) theory predicate }
+    ensures { Checks (T.state theories.old) (T.state theories.new) theory conditions.old.items conditions.new.items (λ s l. check l (context_at s (Assumed.Bind domain ∷ g.now.items)) (tree_at s predicate) TBool) result }
 {
     let truth = truth_type(theories, theory)?;
     check_under(
@@ -671,11 +621,10 @@ fn dependent_of<T: Theories>(
     second: Id,
     conditions: &mut Vec<Condition>,
 ) -> Result<(), TypeFault>
-    requires given { IsGiven (T.stored theories.old) (T.declares theories.old theory) (T.lookups theories.old theory) theory g.now.items conditions.old.items }
-    requires first { IsKnown (T.stored theories.old) (T.declares theories.old theory) OfType first }
-    requires second { IsKnown (T.stored theories.old) (T.declares theories.old theory) OfType second }
-    ensures answer { Answers (λ _. tt) (T.stored theories.new) (T.declares theories.new theory) (conditions_at (T.stored theories.old) conditions.old.items) (dependent_well_formed (tree_at (T.stored theories.old) first) (typing (T.lookups theories.old theory) (tree_at (T.stored theories.old) first)) (typing (T.lookups theories.old theory) (tree_at (T.stored theories.old) second)) (context_at (T.stored theories.old) g.now.items)) conditions.new.items result }
-    ensures kept { Keeps (T.stored theories.old) (T.declares theories.old theory) (T.lookups theories.old theory) (T.stored theories.new) (T.declares theories.new theory) (T.lookups theories.new theory) }
+    requires given { IsGiven (T.state theories.old) theory g.now.items conditions.old.items }
+    requires first { IsTypeOf (T.state theories.old) theory first }
+    requires second { IsTypeOf (T.state theories.old) theory second }
+    ensures { Checks (T.state theories.old) (T.state theories.new) theory conditions.old.items conditions.new.items (λ s l. dependent_well_formed (tree_at s first) (typing l (tree_at s first)) (typing l (tree_at s second)) (context_at s g.now.items)) result }
 {
     formed_of(theories, theory, g, first, conditions)?;
     formed_under(
@@ -697,11 +646,9 @@ pub(crate) fn infer_of<T: Theories>(
     term: Id,
     conditions: &mut Vec<Condition>,
 ) -> Result<Id, TypeFault>
-    requires given { IsGiven (T.stored theories.old) (T.declares theories.old theory) (T.lookups theories.old theory) theory g.now.items conditions.old.items }
-    requires term { IsKnown (T.stored theories.old) (T.declares theories.old theory) OfTerm term }
-    ensures answer { Answers (tree_at (T.stored theories.new)) (T.stored theories.new) (T.declares theories.new theory) (conditions_at (T.stored theories.old) conditions.old.items) (infer (T.lookups theories.old theory) (context_at (T.stored theories.old) g.now.items) (tree_at (T.stored theories.old) term)) conditions.new.items result }
-    ensures known { IfOk result (IsKnown (T.stored theories.new) (T.declares theories.new theory) OfType) }
-    ensures kept { Keeps (T.stored theories.old) (T.declares theories.old theory) (T.lookups theories.old theory) (T.stored theories.new) (T.declares theories.new theory) (T.lookups theories.new theory) }
+    requires given { IsGiven (T.state theories.old) theory g.now.items conditions.old.items }
+    requires term { IsTermOf (T.state theories.old) theory term }
+    ensures { Infers (T.state theories.old) (T.state theories.new) theory conditions.old.items conditions.new.items (λ s l. infer l (context_at s g.now.items) (tree_at s term)) result }
 {
     match node_of(theories, theory, term) {
         Node::Var(n) => variable_type(theories, theory, g, n),
@@ -729,11 +676,10 @@ pub(crate) fn check_of<T: Theories>(
     ty: Id,
     conditions: &mut Vec<Condition>,
 ) -> Result<(), TypeFault>
-    requires given { IsGiven (T.stored theories.old) (T.declares theories.old theory) (T.lookups theories.old theory) theory g.now.items conditions.old.items }
-    requires term { IsKnown (T.stored theories.old) (T.declares theories.old theory) OfTerm term }
-    requires ty { IsKnown (T.stored theories.old) (T.declares theories.old theory) OfType ty }
-    ensures answer { Answers (λ _. tt) (T.stored theories.new) (T.declares theories.new theory) (conditions_at (T.stored theories.old) conditions.old.items) (check (T.lookups theories.old theory) (context_at (T.stored theories.old) g.now.items) (tree_at (T.stored theories.old) term) (tree_at (T.stored theories.old) ty)) conditions.new.items result }
-    ensures kept { Keeps (T.stored theories.old) (T.declares theories.old theory) (T.lookups theories.old theory) (T.stored theories.new) (T.declares theories.new theory) (T.lookups theories.new theory) }
+    requires given { IsGiven (T.state theories.old) theory g.now.items conditions.old.items }
+    requires term { IsTermOf (T.state theories.old) theory term }
+    requires ty { IsTypeOf (T.state theories.old) theory ty }
+    ensures { Checks (T.state theories.old) (T.state theories.new) theory conditions.old.items conditions.new.items (λ s l. check l (context_at s g.now.items) (tree_at s term) (tree_at s ty)) result }
 {
     match node_of(theories, theory, term) {
         Node::If(c, a, b) => if_check(theories, theory, g, c, a, b, ty, conditions),
@@ -751,11 +697,10 @@ fn inferred_check<T: Theories>(
     ty: Id,
     conditions: &mut Vec<Condition>,
 ) -> Result<(), TypeFault>
-    requires given { IsGiven (T.stored theories.old) (T.declares theories.old theory) (T.lookups theories.old theory) theory g.now.items conditions.old.items }
-    requires term { IsKnown (T.stored theories.old) (T.declares theories.old theory) OfTerm term }
-    requires ty { IsKnown (T.stored theories.old) (T.declares theories.old theory) OfType ty }
-    ensures answer { Answers (λ _. tt) (T.stored theories.new) (T.declares theories.new theory) (conditions_at (T.stored theories.old) conditions.old.items) (inferred_check (T.lookups theories.old theory) (context_at (T.stored theories.old) g.now.items) (tree_at (T.stored theories.old) term) (tree_at (T.stored theories.old) ty)) conditions.new.items result }
-    ensures kept { Keeps (T.stored theories.old) (T.declares theories.old theory) (T.lookups theories.old theory) (T.stored theories.new) (T.declares theories.new theory) (T.lookups theories.new theory) }
+    requires given { IsGiven (T.state theories.old) theory g.now.items conditions.old.items }
+    requires term { IsTermOf (T.state theories.old) theory term }
+    requires ty { IsTypeOf (T.state theories.old) theory ty }
+    ensures { Checks (T.state theories.old) (T.state theories.new) theory conditions.old.items conditions.new.items (λ s l. inferred_check l (context_at s g.now.items) (tree_at s term) (tree_at s ty)) result }
 {
     let own = infer_of(theories, theory, g, term, conditions)?;
     coerce_of(theories, theory, g, term, own, ty, conditions)
@@ -770,10 +715,9 @@ pub(crate) fn formed_of<T: Theories>(
     ty: Id,
     conditions: &mut Vec<Condition>,
 ) -> Result<(), TypeFault>
-    requires given { IsGiven (T.stored theories.old) (T.declares theories.old theory) (T.lookups theories.old theory) theory g.now.items conditions.old.items }
-    requires ty { IsKnown (T.stored theories.old) (T.declares theories.old theory) OfType ty }
-    ensures answer { Answers (λ _. tt) (T.stored theories.new) (T.declares theories.new theory) (conditions_at (T.stored theories.old) conditions.old.items) (well_formed (T.lookups theories.old theory) (context_at (T.stored theories.old) g.now.items) (tree_at (T.stored theories.old) ty)) conditions.new.items result }
-    ensures kept { Keeps (T.stored theories.old) (T.declares theories.old theory) (T.lookups theories.old theory) (T.stored theories.new) (T.declares theories.new theory) (T.lookups theories.new theory) }
+    requires given { IsGiven (T.state theories.old) theory g.now.items conditions.old.items }
+    requires ty { IsTypeOf (T.state theories.old) theory ty }
+    ensures { Checks (T.state theories.old) (T.state theories.new) theory conditions.old.items conditions.new.items (λ s l. well_formed l (context_at s g.now.items) (tree_at s ty)) result }
 {
     match node_of(theories, theory, ty) {
         Node::TBool => Ok(()),

@@ -7,6 +7,7 @@ use Rattle.pvs_terms.specs.declared.node.Node.{Node}
 use Rattle.pvs_terms.specs.declared.shape.Sort.{Sort}
 use Rattle.pvs_terms.specs.Stored.{Stored, IsNode, IsRef, PartsIn, node_tree, tree_at, ref_at}
 use Rattle.pvs_sig.specs.Lookups.{Lookups, type_size}
+use Rattle.pvs_typing.specs.State.{State}
 
 -- the body of a type that is defined as the one before it
 abbrev pub previous : Ref → Option Tree
@@ -31,6 +32,13 @@ example_lookups s a d b = record {
 
 abbrev pub IsDeclared : Sort → Ref → Type 0
 IsDeclared o r = Unit {0}
+
+abbrev pub example_state : Stored → ℕ → ℕ → ℕ → State
+example_state s a d b = record {
+  stored = s;
+  declares = λ n. IsDeclared;
+  lookups = λ n. example_lookups s a d b;
+}
 
 -- the type of constants, and a defined name whose body is a subtype of the truth values
 pub record IsExample (s : Stored) (a d b : ℕ) : Type 0 where

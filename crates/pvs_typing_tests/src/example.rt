@@ -6,7 +6,7 @@ ghost use Rattle.pvs_terms.specs.Sorts.{IsType};
 ghost use Rattle.pvs_typing.specs.Answers.{tree_option, IsOptionKnown};
 ghost use Rattle.pvs_terms.specs.Stored.{Extends, IsNode, IsRef, ref_at, Stands, tree_at};
 ghost use Rattle.pvs_terms.specs.declared.shape.Sort.TheVariants.{OfType, OfTerm};
-ghost use Rattle.pvs_typing_tests.specs.Example.{example_lookups, IsDeclared, IsExample, IsOf, previous};
+ghost use Rattle.pvs_typing_tests.specs.Example.{example_state, IsDeclared, IsExample, IsOf, previous};
 
 use pvs_subst::{SubstFault, lift, put_in};
 use pvs_terms::{Id, MakeFault, Name, Node, RefId, RefKind, Store};
@@ -102,11 +102,7 @@ fn previous(store: &mut Store, r: RefId) -> Result<Option<Id>, SubstFault>
 }
 
 impl Theories for Example {
-    ghost stored = { λ e. e.store };
-
-    ghost lookups = { λ e n. example_lookups e.store e.constant_type e.defined e.body };
-
-    ghost declares = { λ e n. IsDeclared };
+    ghost state = { λ e. example_state e.store e.constant_type e.defined e.body };
 
     fn store(&self) -> &Store {
         &self.store

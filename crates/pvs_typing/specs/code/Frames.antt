@@ -1,5 +1,5 @@
 -- What is left of a most general form: types around the one that is widened, and how much work they are at most.
-use Rattle.std.specs.Prelude.{◌≡◌, ◌<◌, ◌≤◌, ◌+◌, ℕ, suc, List, [], ◌∷◌, ◌++◌, Option, Some, None, Result, Ok}
+use Rattle.std.specs.Prelude.{◌≡◌, ◌<◌, ◌≤◌, ◌+◌, ℕ, suc, List, [], ◌∷◌, ◌++◌, Option, Some, None, Result, Ok, IfOk, IfErr, OnOk}
 use Rattle.pvs_base.specs.Answers.{◌>>=◌}
 use Rattle.pvs_base.specs.declared.code.Code.{Code}
 use Rattle.pvs_terms.specs.Tree.{Tree, Ref, TFun, TPair}
@@ -9,6 +9,9 @@ use Rattle.pvs_terms.specs.Stored.{Stored, tree_at}
 use Rattle.pvs_sig.specs.Lookups.{Lookups, type_size}
 use Rattle.pvs_types.specs.Forms.{small_tree, most_pair, most}
 use Rattle.pvs_typing.specs.Growth.{IsKnown}
+use Rattle.pvs_typing.specs.Answers.{Gives, IsRefusal}
+use Rattle.pvs_typing.specs.State.{State, Grows}
+use Rattle.pvs_typing.specs.declared.fault.TypeFault.{TypeFault}
 use Rattle.pvs_typing.specs.declared.general.Frame.{Frame}
 use Rattle.pvs_typing.specs.declared.general.Frame.TheVariants.{Range, Others, First}
 use Rattle.pvs_typing.specs.declared.general.Inside.{Inside}
@@ -78,3 +81,31 @@ pub record Enters (l : Lookups) (s : Stored) (P : Sort → Ref → Type 0) (t : 
   pub known : IsKnownStep s P x.frame x.ty
   pub result : most l t ≡ step_result l s t x.frame x.ty
   pub less : step_work l s x.frame x.ty < down_work l t
+
+-- the same in the terms of a theory
+abbrev pub IsFrameOf : State → ℕ → Frame → Type 0
+IsFrameOf k theory f = IsKnownFrame k.stored (k.declares theory) f
+
+abbrev pub AreFramesOf : State → ℕ → List Frame → Type 0
+AreFramesOf k theory fs = AreKnownFrames k.stored (k.declares theory) fs
+
+-- What a call answers that goes from one state to the next, in the terms of a theory.
+
+-- the form of a type, where the tree is within the limits
+pub record MakesForm (k m : State) (theory : ℕ) (f : Stored → Tree) (r : Result ℕ TypeFault) : Type 0 where
+  pub ok : IfOk r (Gives m.stored (m.declares theory) OfType (f k.stored))
+  pub refused : IfErr r (IsRefusal (small_tree (f k.stored)))
+  pub kept : Grows k m theory
+
+-- a step into a type
+pub record StepsInto (k m : State) (theory ty : ℕ) (r : Result Inside TypeFault) : Type 0 where
+  pub ok : IfOk r (Enters (k.lookups theory) m.stored (m.declares theory) (tree_at k.stored ty))
+  pub refused : IfErr r (IsRefusal (most (k.lookups theory) (tree_at k.stored ty)))
+  pub kept : Grows k m theory
+
+-- the innermost form, so that the frames then make of it what those before make of `f`, with less than this work
+pub record Widens (k m : State) (theory : ℕ) (before after : List Frame) (f : Stored → Lookups → Result Tree Code) (work : Stored → Lookups → ℕ) (r : Result ℕ TypeFault) : Type 0 where
+  pub ok : IfOk r (Around (k.lookups theory) m.stored (m.declares theory) (frames_result (k.lookups theory) k.stored before (f k.stored (k.lookups theory))) after)
+  pub less : OnOk r (frames_work (k.lookups theory) m.stored after < frames_work (k.lookups theory) k.stored before + work k.stored (k.lookups theory))
+  pub refused : IfErr r (IsRefusal (frames_result (k.lookups theory) k.stored before (f k.stored (k.lookups theory))))
+  pub kept : Grows k m theory

@@ -1,5 +1,5 @@
 -- What is left of a row of typing after its first steps.
-use Rattle.std.specs.Prelude.{ℕ, zero, suc, Bool, true, false, ◌&&◌, List, [], ◌∷◌, Option, Some, None}
+use Rattle.std.specs.Prelude.{ℕ, zero, suc, Bool, true, false, ◌&&◌, List, [], ◌∷◌, Option, Some, None, Result, IfOk}
 use Rattle.pvs_terms.specs.Tree.{Tree, Leaf, Bind, tree_eq, TBool, True, False, TFun, TPair, Fst}
 use Rattle.pvs_terms.specs.declared.shape.Plain.TheVariants.{Yes}
 use Rattle.pvs_terms.specs.declared.shape.Binder.TheVariants.{Lambda}
@@ -9,6 +9,10 @@ use Rattle.pvs_subst.specs.Contexts.{Assumptions, Variable, Hypothesis}
 use Rattle.pvs_subst.specs.declared.context.Assumed.{Assumed}
 use Rattle.pvs_subst.specs.declared.context.Assumed.TheVariants as assumed
 use Rattle.pvs_sig.specs.Lookups.{Lookups}
+use Rattle.pvs_typing.specs.Answers.{IsOptionOf, tree_option}
+use Rattle.pvs_typing.specs.Judging.{Answers}
+use Rattle.pvs_typing.specs.State.{State, IsTypeOf, Grows}
+use Rattle.pvs_typing.specs.declared.fault.TypeFault.{TypeFault}
 use Rattle.pvs_types.specs.Outcome.{Outcome, ◌>>=◌, ◌>>◌, pure, from_result, within_limits}
 use Rattle.pvs_types.specs.Forms.{head, up, most, first_among}
 use Rattle.pvs_types.specs.Coerce.{lift_one, coerce}
@@ -200,3 +204,18 @@ abbrev pub checked_other : Lookups → Assumptions → Tree → Tree → Tree �
 checked_other l g t b u = do
   n ← within_limits (negation t)
   check l (Hypothesis n ∷ g) b u
+
+-- What a call answers that goes from one state to the next, in the terms of a theory.
+
+-- the two parts of the head of a type, by number
+pub record FindsParts (k m : State) (theory : ℕ) (f : Stored → Lookups → Outcome Components) (r : Result (ℕ × ℕ) TypeFault) : Type 0 where
+  pub answer : Answers (λ (p : ℕ × ℕ). components_at m.stored p.0 p.1) m.stored (m.declares theory) [] (f k.stored (k.lookups theory)) [] r
+  pub first : IfOk r (λ p. IsTypeOf m theory p.0)
+  pub second : IfOk r (λ p. IsTypeOf m theory p.1)
+  pub kept : Grows k m theory
+
+-- a type by number, if there is one
+pub record FindsCommon (k m : State) (theory : ℕ) (f : Stored → Lookups → Outcome (Option Tree)) (r : Result (Option ℕ) TypeFault) : Type 0 where
+  pub answer : Answers (tree_option m.stored) m.stored (m.declares theory) [] (f k.stored (k.lookups theory)) [] r
+  pub known : IfOk r (IsOptionOf m theory)
+  pub kept : Grows k m theory

@@ -1,5 +1,5 @@
 -- What is left of a coercion: which outcomes tasks stand for, and how much work they are at most.
-use Rattle.std.specs.Prelude.{◌≡◌, ◌<◌, ◌≤◌, ◌+◌, ℕ, zero, suc, List, [], ◌∷◌, ◌++◌}
+use Rattle.std.specs.Prelude.{◌≡◌, ◌<◌, ◌≤◌, ◌+◌, ℕ, zero, suc, List, [], ◌∷◌, ◌++◌, Result, IfOk, IfErr}
 use Rattle.pvs_terms.specs.Tree.{Tree, Ref}
 use Rattle.pvs_terms.specs.declared.shape.Sort.{Sort}
 use Rattle.pvs_terms.specs.declared.shape.Sort.TheVariants.{OfType, OfTerm}
@@ -14,6 +14,9 @@ use Rattle.pvs_types.specs.Forms.{head}
 use Rattle.pvs_types.specs.Coerce.{application, second_part, same_type, coerce}
 use Rattle.pvs_typing.specs.Growth.{IsKnown, IsKnownContext}
 use Rattle.pvs_typing.specs.Owed.{condition_at, conditions_at, IsKnownCondition, AreKnownConditions}
+use Rattle.pvs_typing.specs.Answers.{Gives, IsFault}
+use Rattle.pvs_typing.specs.State.{State, Grows}
+use Rattle.pvs_typing.specs.declared.fault.TypeFault.{TypeFault}
 use Rattle.pvs_typing.specs.declared.tasks.Task.{Task}
 use Rattle.pvs_typing.specs.declared.tasks.Task.TheVariants.{Coerce, Satisfy, Second, Apply}
 use Rattle.pvs_typing.specs.declared.tasks.Next.{Next}
@@ -148,3 +151,31 @@ pub record Leaves (l : Lookups) (s : Stored) (P : Sort → Ref → Type 0) (o : 
   pub tasks : AreKnownTasks s P ts
   pub conditions : AreKnownConditions s P cs
   pub same : o ≡ outcome_after (conditions_at s cs) [] (stack_outcome l s ts (pure tt))
+
+-- the same in the terms of a theory
+abbrev pub IsCoercionOf : State → ℕ → Context → ℕ → ℕ → ℕ → Type 0
+IsCoercionOf k theory g t b a = IsKnownCoercion k.stored (k.declares theory) g t b a
+
+abbrev pub IsTaskOf : State → ℕ → Task → Type 0
+IsTaskOf k theory x = IsKnownTask k.stored (k.declares theory) x
+
+-- What a call answers that goes from one state to the next, in the terms of a theory.
+
+-- two types by number, where both trees are within the limits
+pub record MakesBoth (k m : State) (theory : ℕ) (f h : Stored → Tree) (r : Result (ℕ × ℕ) TypeFault) : Type 0 where
+  pub first : IfOk r (λ p. Gives m.stored (m.declares theory) OfType (f k.stored) p.0)
+  pub second : IfOk r (λ p. Gives m.stored (m.declares theory) OfType (h k.stored) p.1)
+  pub refused : IfErr r (IsFault (both_within (f k.stored) (h k.stored)))
+  pub kept : Grows k m theory
+
+-- nothing, where the outcome accepts and owes nothing
+pub record Passes (k m : State) (theory : ℕ) (f : Stored → Lookups → Outcome (Unit {0})) (r : Result (Unit {0}) TypeFault) : Type 0 where
+  pub ok : IfOk r (λ _. f k.stored (k.lookups theory) ≡ pure tt)
+  pub refused : IfErr r (IsFault (f k.stored (k.lookups theory)))
+  pub kept : Grows k m theory
+
+-- what follows a step that stands for the outcome `f`, with less than this work
+pub record Steps (k m : State) (theory : ℕ) (f : Stored → Lookups → Outcome (Unit {0})) (work : Stored → Lookups → ℕ) (r : Result Next TypeFault) : Type 0 where
+  pub ok : IfOk r (Follows (k.lookups theory) m.stored (m.declares theory) (f k.stored (k.lookups theory)) (work k.stored (k.lookups theory)))
+  pub refused : IfErr r (IsFault (f k.stored (k.lookups theory)))
+  pub kept : Grows k m theory

@@ -1,23 +1,40 @@
-use Rattle.std.proofs.lemmas.Result.{err_from_is_err_and}
 use Rattle.pvs_terms.specs.Stored.{tree_at}
 use Rattle.pvs_subst.specs.Contexts.{context_at}
 use Rattle.pvs_types.specs.Coerce.{coerce}
 use Rattle.pvs_typing.specs.Owed.{conditions_at}
 use Rattle.pvs_typing.proofs.GrowthLaws.{keeps_trans}
 use Rattle.pvs_typing.proofs.StackLaws.{last_known, loop_goes_on, loop_less, loop_fault}
+use Rattle.pvs_typing.proofs.JudgingLaws.{result_err}
 use Rattle.pvs_typing.proofs.coercion.coerce_of.Goals as goal
 
 pub step-requires-clause-task : goal.step-requires-clause-task
 step-requires-clause-task g c =
     let t = g.T.Theories in
     let w = c.loop-task.theories in
-    last_known (t.stored w) (t.declares w c.args.theory) c.pop.new.self.items c.loop-task.tasks.items c.in-Some.task c.in-Some.ensures.items c.loop-task.invariant.left.tasks
+    last_known (t.state w).stored ((t.state w).declares c.args.theory) c.pop.new.self.items c.loop-task.tasks.items c.in-Some.task c.in-Some.ensures.items c.loop-task.invariant.left.tasks
 
-pub returns-in_err-next-clause-kept : goal.returns-in_err-next-clause-kept
-returns-in_err-next-clause-kept g c = keeps_trans c.loop-task.invariant.kept c.in_err-next.ensures.kept
+pub returns-in_err-next : goal.returns-in_err-next
+returns-in_err-next g c =
+    let t = g.T.Theories in
+    let a = c.args in
+    let s = (t.state a.theories.now).stored in
+    let i = c.loop-task.invariant in
+    rw (result_err c.from_residual-in_err-next.result c.from_residual-in_err-next.ensures.1) (record {
+      ok = tt;
+      known = tt;
+      refused = loop_fault (conditions_at s a.conditions.now.items) (coerce ((t.state a.theories.now).lookups a.theory) (context_at s a.g.now.items) (tree_at s a.term) (tree_at s a.from) (tree_at s a.to))
+          c.loop-task.conditions.items c.pop.new.self.items c.loop-task.tasks.items c.in-Some.task c.in_err-next.field-0.0 i.left c.in-Some.ensures.items i.kept.lookups c.in_err-next.ensures.refused;
+      kept = keeps_trans c.loop-task.invariant.kept c.in_err-next.ensures.kept;
+    })
 
-pub returns-in_err-add_next-clause-kept : goal.returns-in_err-add_next-clause-kept
-returns-in_err-add_next-clause-kept g c = keeps_trans c.loop-task.invariant.kept c.in_ok-next.ensures.kept
+pub returns-in_err-add_next : goal.returns-in_err-add_next
+returns-in_err-add_next g c =
+    rw (result_err c.from_residual-in_err-add_next.result c.from_residual-in_err-add_next.ensures.1) (record {
+      ok = tt;
+      known = tt;
+      refused = tt;
+      kept = keeps_trans c.loop-task.invariant.kept c.in_ok-next.ensures.kept;
+    })
 
 pub loop-task-preserved : goal.loop-task-preserved
 loop-task-preserved g c =
@@ -34,13 +51,3 @@ loop-task-smaller g c =
     let i = c.loop-task.invariant in
     loop_less c.loop-task.conditions.items c.pop.new.self.items c.loop-task.tasks.items c.add_next.new.tasks.items c.in-Some.task c.in_ok-next.next
     i.left c.in-Some.ensures.items i.kept.lookups c.in_ok-next.ensures.kept c.in_ok-next.ensures.ok c.in_ok-add_next.ensures.tasks
-
-pub returns-in_err-next-clause-refused : goal.returns-in_err-next-clause-refused
-returns-in_err-next-clause-refused g c =
-    let t = g.T.Theories in
-    let a = c.args in
-    let s = t.stored a.theories.now in
-    let i = c.loop-task.invariant in
-    let p = err_from_is_err_and c.from_residual-in_err-next.result c.from_residual-in_err-next.ensures.1 in
-    rw (p.1, p.2) (loop_fault (conditions_at s a.conditions.now.items) (coerce (t.lookups a.theories.now a.theory) (context_at s a.g.now.items) (tree_at s a.term) (tree_at s a.from) (tree_at s a.to))
-    c.loop-task.conditions.items c.pop.new.self.items c.loop-task.tasks.items c.in-Some.task c.in_err-next.field-0.0 i.left c.in-Some.ensures.items i.kept.lookups c.in_err-next.ensures.refused)

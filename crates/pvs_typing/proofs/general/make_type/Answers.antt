@@ -4,8 +4,12 @@ use Rattle.pvs_terms.specs.Stored.{node_tree}
 use Rattle.pvs_typing.proofs.PartLaws.{made_gives}
 use Rattle.pvs_typing.proofs.general.make_type.Goals as goal
 
-pub returns-clause-ok : goal.returns-clause-ok
-returns-clause-ok g c =
-    let u = node_tree (g.T.Theories.stored c.args.theories.now) c.args.node in
+pub returns : goal.returns
+returns g c =
+    let u = node_tree (g.T.Theories.state c.args.theories.now).stored c.args.node in
     let h = c.in_ok-made.ensures in
-    made_gives OfType u u c.in_ok-made.made (h.kept c.args._theory c.requires.theory) refl c.requires.ty c.requires.names h.ok
+    record {
+      ok = made_gives OfType u u c.in_ok-made.made (h.kept c.args._theory c.requires.theory) refl c.requires.ty c.requires.names h.ok;
+      refused = tt;
+      kept = h.kept c.args._theory c.requires.theory;
+    }

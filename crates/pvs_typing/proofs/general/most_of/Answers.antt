@@ -1,6 +1,6 @@
-use Rattle.std.proofs.lemmas.Result.{err_from_is_err_and}
 use Rattle.pvs_typing.proofs.GrowthLaws.{keeps_trans}
 use Rattle.pvs_typing.proofs.GeneralLaws.{around_goes_on, around_less, around_fault, known_frames-split}
+use Rattle.pvs_typing.proofs.JudgingLaws.{result_err}
 use Rattle.pvs_typing.proofs.general.most_of.Goals as goal
 
 pub loop-frame-preserved : goal.loop-frame-preserved
@@ -15,25 +15,26 @@ loop-frame-preserved g c =
 pub loop-frame-smaller : goal.loop-frame-smaller
 loop-frame-smaller g c =
     let t = g.T.Theories in
-    around_less (t.stored c.loop-frame.theories) (t.stored c.leave.new.theories) c.pop.new.self.items c.loop-frame.frames.items c.leave.new.frames.items c.in-Some.frame c.in-Some.ensures.items c.loop-frame.invariant.kept.lookups c.in_ok-made-2.ensures.less
+    around_less (t.state c.loop-frame.theories).stored (t.state c.leave.new.theories).stored c.pop.new.self.items c.loop-frame.frames.items c.leave.new.frames.items c.in-Some.frame c.in-Some.ensures.items c.loop-frame.invariant.kept.lookups c.in_ok-made-2.ensures.less
 
 pub leave-requires-clause-frame : goal.leave-requires-clause-frame
 leave-requires-clause-frame g c =
     let t = g.T.Theories in
     let w = c.loop-frame.theories in
-    (known_frames-split (t.stored w) (t.declares w c.args.theory) c.pop.new.self.items c.loop-frame.frames.items c.in-Some.frame c.in-Some.ensures.items c.loop-frame.invariant.left.frames).1
+    (known_frames-split (t.state w).stored ((t.state w).declares c.args.theory) c.pop.new.self.items c.loop-frame.frames.items c.in-Some.frame c.in-Some.ensures.items c.loop-frame.invariant.left.frames).1
 
 pub leave-requires-clause-frames : goal.leave-requires-clause-frames
 leave-requires-clause-frames g c =
     let t = g.T.Theories in
     let w = c.loop-frame.theories in
-    (known_frames-split (t.stored w) (t.declares w c.args.theory) c.pop.new.self.items c.loop-frame.frames.items c.in-Some.frame c.in-Some.ensures.items c.loop-frame.invariant.left.frames).0
+    (known_frames-split (t.state w).stored ((t.state w).declares c.args.theory) c.pop.new.self.items c.loop-frame.frames.items c.in-Some.frame c.in-Some.ensures.items c.loop-frame.invariant.left.frames).0
 
-pub returns-in_err-made-2-clause-kept : goal.returns-in_err-made-2-clause-kept
-returns-in_err-made-2-clause-kept g c = keeps_trans c.loop-frame.invariant.kept c.in_err-made-2.ensures.kept
-
-pub returns-in_err-made-2-clause-refused : goal.returns-in_err-made-2-clause-refused
-returns-in_err-made-2-clause-refused g c =
+pub returns-in_err-made-2 : goal.returns-in_err-made-2
+returns-in_err-made-2 g c =
     let i = c.loop-frame.invariant in
-    let p = err_from_is_err_and c.from_residual-in_err-made-2.result c.from_residual-in_err-made-2.ensures.1 in
-    rw (p.1, p.2) (around_fault c.pop.new.self.items c.loop-frame.frames.items c.in-Some.frame c.loop-frame.made c.in_err-made-2.field-0.0 i.left c.in-Some.ensures.items i.kept.lookups c.in_err-made-2.ensures.refused)
+    rw (result_err c.from_residual-in_err-made-2.result c.from_residual-in_err-made-2.ensures.1) (record {
+      ok = tt;
+      known = tt;
+      refused = around_fault c.pop.new.self.items c.loop-frame.frames.items c.in-Some.frame c.loop-frame.made c.in_err-made-2.field-0.0 i.left c.in-Some.ensures.items i.kept.lookups c.in_err-made-2.ensures.refused;
+      kept = keeps_trans c.loop-frame.invariant.kept c.in_err-made-2.ensures.kept;
+    })

@@ -2,16 +2,24 @@ use Rattle.pvs_terms.specs.Stored.{tree_at}
 use Rattle.pvs_subst.specs.Contexts.{context_at}
 use Rattle.pvs_types.proofs.UsesLaws.{typing_uses}
 use Rattle.pvs_typing.proofs.JudgingLaws.{judged}
+use Rattle.std.proofs.Common.{refl}
 use Rattle.pvs_typing.proofs.judging.check.Goals as goal
 
 -- the symbols are those of the tree, in the store as it stands then
-pub returns-clause-ok : goal.returns-clause-ok
-returns-clause-ok g c =
+pub returns : goal.returns
+returns g c =
     let x = g.T.Theories in
-    let s = x.stored c.args.theories.now in
-    let l = x.lookups c.args.theories.now c.args.theory in
+    let s = (x.state c.args.theories.now).stored in
+    let l = (x.state c.args.theories.now).lookups c.args.theory in
     let h = c.in_ok-check_of.ensures in
     let t = tree_at s c.args.term in
     let a = rw c.new-conditions.ensures.items at h.answer.is in
     let e = rw (c.store-2.ensures, h.kept.stored.trees c.args.term c.requires.term.node) at c.in_ok-uses.ensures.ok in
-    judged t c.in_ok-uses.uses.items a ((typing_uses l t).check (context_at s c.args.g.now.items) (tree_at s c.args.ty)) e
+    record {
+      ok = judged t c.in_ok-uses.uses.items a ((typing_uses l t).check (context_at s c.args.g.now.items) (tree_at s c.args.ty)) e;
+      ty = refl;
+      conditions = h.answer.is.conditions;
+      uses = rw c.store-2.ensures at c.in_ok-uses.ensures.refs;
+      refused = tt;
+      kept = h.kept;
+    }

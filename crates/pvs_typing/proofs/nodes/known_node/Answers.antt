@@ -5,5 +5,5 @@ pub returns-clause-parts : goal.returns-clause-parts
 returns-clause-parts g c =
     let e = c.store.ensures in
     let v = c.view.ensures in
-    known_parts_at (g.T.Theories.stored c.args.theories.now) (g.T.Theories.declares c.args.theories.now c.args._theory) c.args.id c.view.result c.requires.node
+    known_parts_at (g.T.Theories.state c.args.theories.now).stored ((g.T.Theories.state c.args.theories.now).declares c.args._theory) c.args.id c.view.result c.requires.node
     (rw e at v.tree) (rw e at v.parts) c.requires.names (rw e at v.sorted)

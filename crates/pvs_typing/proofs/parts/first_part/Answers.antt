@@ -8,7 +8,7 @@ use Rattle.pvs_typing.proofs.parts.first_part.Goals as goal
 
 pub returns-in_ok-first-in_default : goal.returns-in_ok-first-in_default
 returns-in_ok-first-in_default g c =
-    let s = g.T.Theories.stored c.args.theories.now in
+    let s = (g.T.Theories.state c.args.theories.now).stored in
     let k = c.in_ok-first-in_default.ensures in
     let kept = k.kept c.args.theory c.requires.theory in
     record {

@@ -4,15 +4,19 @@ use Rattle.pvs_typing.proofs.GrowthLaws.{keeps_trans, known_kept}
 use Rattle.pvs_typing.proofs.JudgingLaws.{given_kept, row3}
 use Rattle.pvs_typing.proofs.rows.equal_at.Goals as goal
 
-pub returns-clause-answer : goal.returns-clause-answer
-returns-clause-answer g c =
+pub returns : goal.returns
+returns g c =
     let h = c.in_ok-coerce_of.ensures in
     let r = c.requires in
-    row3 (λ l g a c m _. equal_left l g a c m) c.args.g.now.items c.args.left c.args.left_type c.args.common h.kept r.given.context r.left r.left_type r.common (record { owes = h.ok; conditions = h.known }) c.equal_left.ensures.answer
+    record {
+      answer = row3 (λ l g a c m _. equal_left l g a c m) c.args.g.now.items c.args.left c.args.left_type c.args.common h.kept r.given.context r.left r.left_type r.common (record { owes = h.ok; conditions = h.known }) c.equal_left.ensures.answer;
+      known = c.equal_left.ensures.known;
+      kept = keeps_trans c.in_ok-coerce_of.ensures.kept c.equal_left.ensures.kept;
+    }
 
 pub equal_left-requires-clause-given : goal.equal_left-requires-clause-given
 equal_left-requires-clause-given g c =
-    given_kept c.in_ok-coerce_of.ensures.kept c.requires.given c.in_ok-coerce_of.ensures.known
+    given_kept c.requires.given c.in_ok-coerce_of.ensures.kept c.in_ok-coerce_of.ensures.known
 
 pub equal_left-requires-clause-left : goal.equal_left-requires-clause-left
 equal_left-requires-clause-left g c =
@@ -25,7 +29,3 @@ equal_left-requires-clause-left_type g c =
 pub equal_left-requires-clause-common : goal.equal_left-requires-clause-common
 equal_left-requires-clause-common g c =
     known_kept OfType c.args.common c.in_ok-coerce_of.ensures.kept c.requires.common
-
-pub returns-clause-kept : goal.returns-clause-kept
-returns-clause-kept g c =
-    keeps_trans c.in_ok-coerce_of.ensures.kept c.equal_left.ensures.kept

@@ -8,19 +8,23 @@ use Rattle.pvs_typing.proofs.OwedLaws.{conditions_kept}
 use Rattle.pvs_typing.proofs.JudgingLaws.{answers_fault, form_accepts, form_fault, given_kept, quiet_accepts, result_err, row4}
 use Rattle.pvs_typing.proofs.rows.equal_sides.Goals as goal
 
-pub returns-clause-answer : goal.returns-clause-answer
-returns-clause-answer g c =
+pub returns : goal.returns
+returns g c =
     let h = c.in_ok-common.ensures in
     let r = c.requires in
     let t = g.T.Theories in
-    let l = t.lookups c.args.theories.now c.args.theory in
-    row4 (equal_at) c.args.g.now.items c.args.left c.args.right c.args.left_type c.args.right_type h.kept r.given.context r.left r.right r.left_type r.right_type
-    (quiet_accepts c.args.conditions.now.items h.kept r.given.conditions (form_accepts (t.stored c.most_of.new.theories) (t.declares c.most_of.new.theories c.args.theory) (most l (tree_at (t.stored c.args.theories.now) c.args.left_type)) (tree_at (t.stored c.most_of.new.theories) c.in_ok-common.common) h.ok))
-    c.equal_at.ensures.answer
+    let l = (t.state c.args.theories.now).lookups c.args.theory in
+    record {
+      answer = row4 (equal_at) c.args.g.now.items c.args.left c.args.right c.args.left_type c.args.right_type h.kept r.given.context r.left r.right r.left_type r.right_type
+          (quiet_accepts c.args.conditions.now.items h.kept r.given.conditions (form_accepts (t.state c.most_of.new.theories).stored ((t.state c.most_of.new.theories).declares c.args.theory) (most l (tree_at (t.state c.args.theories.now).stored c.args.left_type)) (tree_at (t.state c.most_of.new.theories).stored c.in_ok-common.common) h.ok))
+          c.equal_at.ensures.answer;
+      known = c.equal_at.ensures.known;
+      kept = keeps_trans c.in_ok-common.ensures.kept c.equal_at.ensures.kept;
+    }
 
 pub equal_at-requires-clause-given : goal.equal_at-requires-clause-given
 equal_at-requires-clause-given g c =
-    given_kept c.in_ok-common.ensures.kept c.requires.given (conditions_kept c.args.conditions.now.items c.in_ok-common.ensures.kept c.requires.given.conditions)
+    given_kept c.requires.given c.in_ok-common.ensures.kept (conditions_kept c.args.conditions.now.items c.in_ok-common.ensures.kept c.requires.given.conditions)
 
 pub equal_at-requires-clause-left : goal.equal_at-requires-clause-left
 equal_at-requires-clause-left g c =
@@ -38,11 +42,11 @@ pub equal_at-requires-clause-right_type : goal.equal_at-requires-clause-right_ty
 equal_at-requires-clause-right_type g c =
     known_kept OfType c.args.right_type c.in_ok-common.ensures.kept c.requires.right_type
 
-pub returns-clause-kept : goal.returns-clause-kept
-returns-clause-kept g c =
-    keeps_trans c.in_ok-common.ensures.kept c.equal_at.ensures.kept
-
-pub returns-in_err-common-clause-answer : goal.returns-in_err-common-clause-answer
-returns-in_err-common-clause-answer g c =
-    let l = g.T.Theories.lookups c.args.theories.now c.args.theory in
-    answers_fault (from_result (most l (tree_at (g.T.Theories.stored c.args.theories.now) c.args.left_type))) _ c.in_err-common.field-0.0 (result_err c.from_residual.result c.from_residual.ensures.1) (form_fault _ c.in_err-common.field-0.0 c.in_err-common.ensures.refused)
+pub returns-in_err-common : goal.returns-in_err-common
+returns-in_err-common g c =
+    let l = (g.T.Theories.state c.args.theories.now).lookups c.args.theory in
+    record {
+      answer = answers_fault (from_result (most l (tree_at (g.T.Theories.state c.args.theories.now).stored c.args.left_type))) _ c.in_err-common.field-0.0 (result_err c.from_residual.result c.from_residual.ensures.1) (form_fault _ c.in_err-common.field-0.0 c.in_err-common.ensures.refused);
+      known = rw (result_err c.from_residual.result c.from_residual.ensures.1) tt;
+      kept = c.in_err-common.ensures.kept;
+    }

@@ -5,5 +5,5 @@ use Rattle.pvs_typing.proofs.rows.first_common.Given as goal
 
 abbrev pub invariant-loop-ty : goal.invariant-loop-ty
 invariant-loop-ty g l =
-    let s = g.T.Theories.stored l.fn.theories in
+    let s = (g.T.Theories.state l.fn.theories).stored in
     first_among (all_at s l.types) (all_at s l.others) ≡ first_among (all_at s (drop l.ty-index l.types)) (all_at s l.others)

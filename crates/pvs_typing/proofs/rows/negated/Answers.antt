@@ -7,19 +7,23 @@ use Rattle.pvs_typing.proofs.JudgingLaws.{part_fault, result_err}
 use Rattle.pvs_typing.proofs.RowLaws.{false_fits, true_fits}
 use Rattle.pvs_typing.proofs.rows.negated.Goals as goal
 
-pub returns-in_err-no-clause-refused : goal.returns-in_err-no-clause-refused
-returns-in_err-no-clause-refused g c =
-    let f = tree_at (g.T.Theories.stored c.args.theories.now) c.args.formula in
-    rw (result_err c.from_residual.result c.from_residual.ensures.1) (part_fault False (negation f) c.in_err-no.field-0.0 (λ _. false_fits) c.in_err-no.ensures.refused)
+pub returns-in_err-no : goal.returns-in_err-no
+returns-in_err-no g c =
+    let f = tree_at (g.T.Theories.state c.args.theories.now).stored c.args.formula in
+    rw (result_err c.from_residual.result c.from_residual.ensures.1) (record {
+      ok = tt;
+      refused = part_fault False (negation f) c.in_err-no.field-0.0 (λ _. false_fits) c.in_err-no.ensures.refused;
+      kept = c.in_err-no.ensures.kept;
+    })
 
-pub returns-in_err-yes-clause-refused : goal.returns-in_err-yes-clause-refused
-returns-in_err-yes-clause-refused g c =
-    let f = tree_at (g.T.Theories.stored c.args.theories.now) c.args.formula in
-    rw (result_err c.from_residual-in_err-yes.result c.from_residual-in_err-yes.ensures.1) (part_fault True (negation f) c.in_err-yes.field-0.0 (λ _. true_fits) c.in_err-yes.ensures.refused)
-
-pub returns-in_err-yes-clause-kept : goal.returns-in_err-yes-clause-kept
-returns-in_err-yes-clause-kept g c =
-    keeps_trans c.in_ok-no.ensures.kept c.in_err-yes.ensures.kept
+pub returns-in_err-yes : goal.returns-in_err-yes
+returns-in_err-yes g c =
+    let f = tree_at (g.T.Theories.state c.args.theories.now).stored c.args.formula in
+    rw (result_err c.from_residual-in_err-yes.result c.from_residual-in_err-yes.ensures.1) (record {
+      ok = tt;
+      refused = part_fault True (negation f) c.in_err-yes.field-0.0 (λ _. true_fits) c.in_err-yes.ensures.refused;
+      kept = keeps_trans c.in_ok-no.ensures.kept c.in_err-yes.ensures.kept;
+    })
 
 pub choice-requires-clause-condition : goal.choice-requires-clause-condition
 choice-requires-clause-condition g c =
@@ -29,20 +33,13 @@ pub choice-requires-clause-first : goal.choice-requires-clause-first
 choice-requires-clause-first g c =
     known_kept OfTerm c.in_ok-no.no c.in_ok-yes.ensures.kept c.in_ok-no.ensures.ok.known
 
-pub returns-clause-ok : goal.returns-clause-ok
-returns-clause-ok g c =
+pub returns : goal.returns
+returns g c =
     let k1 = c.in_ok-no.ensures.kept in
     let k2 = c.in_ok-yes.ensures.kept in
     let no = c.in_ok-no.ensures.ok in
-    rw ((keeps_trans k1 k2).stored.trees c.args.formula c.requires.formula.node, k2.stored.trees c.in_ok-no.no no.known.node, no.tree, c.in_ok-yes.ensures.ok.tree) at c.choice.ensures.ok
-
-pub returns-clause-refused : goal.returns-clause-refused
-returns-clause-refused g c =
-    let k1 = c.in_ok-no.ensures.kept in
-    let k2 = c.in_ok-yes.ensures.kept in
-    let no = c.in_ok-no.ensures.ok in
-    rw ((keeps_trans k1 k2).stored.trees c.args.formula c.requires.formula.node, k2.stored.trees c.in_ok-no.no no.known.node, no.tree, c.in_ok-yes.ensures.ok.tree) at c.choice.ensures.refused
-
-pub returns-clause-kept : goal.returns-clause-kept
-returns-clause-kept g c =
-    keeps_trans (keeps_trans c.in_ok-no.ensures.kept c.in_ok-yes.ensures.kept) c.choice.ensures.kept
+    record {
+      ok = rw ((keeps_trans k1 k2).stored.trees c.args.formula c.requires.formula.node, k2.stored.trees c.in_ok-no.no no.known.node, no.tree, c.in_ok-yes.ensures.ok.tree) at c.choice.ensures.ok;
+      refused = rw ((keeps_trans k1 k2).stored.trees c.args.formula c.requires.formula.node, k2.stored.trees c.in_ok-no.no no.known.node, no.tree, c.in_ok-yes.ensures.ok.tree) at c.choice.ensures.refused;
+      kept = keeps_trans (keeps_trans c.in_ok-no.ensures.kept c.in_ok-yes.ensures.kept) c.choice.ensures.kept;
+    }

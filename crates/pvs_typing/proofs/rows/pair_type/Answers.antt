@@ -5,10 +5,14 @@ use Rattle.pvs_terms.specs.declared.shape.Sort.TheVariants.{OfType}
 use Rattle.pvs_typing.proofs.PartLaws.{made_gives}
 use Rattle.pvs_typing.proofs.rows.pair_type.Goals as goal
 
-pub returns-clause-ok : goal.returns-clause-ok
-returns-clause-ok g c =
-    let s = g.T.Theories.stored c.args.theories.now in
+pub returns : goal.returns
+returns g c =
+    let s = (g.T.Theories.state c.args.theories.now).stored in
     let h = c.in_ok-made.ensures in
     let r = c.requires in
     let t = TPair c.args.components (tree_at s c.args.first) (tree_at s c.args.second) in
-    made_gives OfType t t c.in_ok-made.made (h.kept c.args.theory r.theory) refl refl (r.first.names, r.second.names) h.ok
+    record {
+      ok = made_gives OfType t t c.in_ok-made.made (h.kept c.args.theory r.theory) refl refl (r.first.names, r.second.names) h.ok;
+      refused = tt;
+      kept = h.kept c.args.theory r.theory;
+    }

@@ -9,18 +9,18 @@ use Rattle.pvs_typing.proofs.GrowthLaws.{keeps_trans, known_kept}
 use Rattle.pvs_typing.proofs.JudgingLaws.{answers_as, row1, then_assoc}
 use Rattle.pvs_typing.proofs.rows.second_type.Goals as goal
 
-pub returns-clause-answer : goal.returns-clause-answer
-returns-clause-answer g c =
+pub returns : goal.returns
+returns g c =
     let h = c.in_ok-parts.ensures in
     let t = g.T.Theories in
-    let l = t.lookups c.args.theories.now c.args.theory in
-    answers_as (then_assoc (from_result (head l (tree_at (t.stored c.args.theories.now) c.args.ty))) (tuple_of c.args.components) _)
-    (row1 (λ _ _ t p. second_component c.args.components t p.second) [] c.args.tuple h.kept tt c.requires.tuple h.answer.is c.second_component.ensures.answer)
+    let l = (t.state c.args.theories.now).lookups c.args.theory in
+    record {
+      answer = answers_as (then_assoc (from_result (head l (tree_at (t.state c.args.theories.now).stored c.args.ty))) (tuple_of c.args.components) _)
+          (row1 (λ _ _ t p. second_component c.args.components t p.second) [] c.args.tuple h.kept tt c.requires.tuple h.answer.is c.second_component.ensures.answer);
+      known = c.second_component.ensures.known;
+      kept = keeps_trans c.in_ok-parts.ensures.kept c.second_component.ensures.kept;
+    }
 
 pub second_component-requires-clause-tuple : goal.second_component-requires-clause-tuple
 second_component-requires-clause-tuple g c =
     known_kept OfTerm c.args.tuple c.in_ok-parts.ensures.kept c.requires.tuple
-
-pub returns-clause-kept : goal.returns-clause-kept
-returns-clause-kept g c =
-    keeps_trans c.in_ok-parts.ensures.kept c.second_component.ensures.kept

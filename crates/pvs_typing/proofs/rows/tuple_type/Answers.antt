@@ -7,27 +7,26 @@ use Rattle.pvs_typing.proofs.JudgingLaws.{part_fault, result_err}
 use Rattle.pvs_typing.proofs.RowLaws.{pair_fits}
 use Rattle.pvs_typing.proofs.rows.tuple_type.Goals as goal
 
-pub returns-clause-ok : goal.returns-clause-ok
-returns-clause-ok g c =
+pub returns : goal.returns
+returns g c =
     let h = c.in_ok-lifted.ensures in
-    rw (h.kept.stored.trees c.args.first c.requires.first.node, h.ok.tree) at c.pair_type.ensures.ok
-
-pub returns-clause-refused : goal.returns-clause-refused
-returns-clause-refused g c =
-    let h = c.in_ok-lifted.ensures in
-    rw (h.kept.stored.trees c.args.first c.requires.first.node, h.ok.tree) at c.pair_type.ensures.refused
-
-pub returns-clause-kept : goal.returns-clause-kept
-returns-clause-kept g c =
-    keeps_trans c.in_ok-lifted.ensures.kept c.pair_type.ensures.kept
+    record {
+      ok = rw (h.kept.stored.trees c.args.first c.requires.first.node, h.ok.tree) at c.pair_type.ensures.ok;
+      refused = rw (h.kept.stored.trees c.args.first c.requires.first.node, h.ok.tree) at c.pair_type.ensures.refused;
+      kept = keeps_trans c.in_ok-lifted.ensures.kept c.pair_type.ensures.kept;
+    }
 
 pub pair_type-requires-clause-first : goal.pair_type-requires-clause-first
 pair_type-requires-clause-first g c =
     known_kept OfType c.args.first c.in_ok-lifted.ensures.kept c.requires.first
 
-pub returns-in_err-lifted-clause-refused : goal.returns-in_err-lifted-clause-refused
-returns-in_err-lifted-clause-refused g c =
-    let s = g.T.Theories.stored c.args.theories.now in
+pub returns-in_err-lifted : goal.returns-in_err-lifted
+returns-in_err-lifted g c =
+    let s = (g.T.Theories.state c.args.theories.now).stored in
     let a = tree_at s c.args.first in
     let b = lift_one (tree_at s c.args.second) in
-    rw (result_err c.from_residual.result c.from_residual.ensures.1) (part_fault b (TPair c.args.components a b) c.in_err-lifted.field-0.0 (pair_fits c.args.components a b) c.in_err-lifted.ensures.refused)
+    rw (result_err c.from_residual.result c.from_residual.ensures.1) (record {
+      ok = tt;
+      refused = part_fault b (TPair c.args.components a b) c.in_err-lifted.field-0.0 (pair_fits c.args.components a b) c.in_err-lifted.ensures.refused;
+      kept = c.in_err-lifted.ensures.kept;
+    })

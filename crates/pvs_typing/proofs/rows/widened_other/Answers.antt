@@ -5,13 +5,13 @@ use Rattle.pvs_typing.proofs.GrowthLaws.{known_kept}
 use Rattle.pvs_typing.proofs.JudgingLaws.{answers_then, pure_answers}
 use Rattle.pvs_typing.proofs.rows.widened_other.Goals as goal
 
-pub returns-clause-answer : goal.returns-clause-answer
-returns-clause-answer g c =
+pub returns : goal.returns
+returns g c =
     let h = c.in_ok-coerce_under.ensures in
     let t = g.T.Theories in
-    answers_then (λ _. pure (tree_at (t.stored c.args.theories.now) c.args.common)) h.answer.is
-    (pure_answers (tree_at (t.stored c.coerce_under.new.theories)) (t.stored c.coerce_under.new.theories) (t.declares c.coerce_under.new.theories c.args.theory) c.coerce_under.new.conditions.items c.args.common (tree_at (t.stored c.args.theories.now) c.args.common) h.answer.is.conditions (h.kept.stored.trees c.args.common c.requires.common.node))
-
-pub returns-clause-known : goal.returns-clause-known
-returns-clause-known g c =
-    known_kept OfType c.args.common c.in_ok-coerce_under.ensures.kept c.requires.common
+    record {
+      answer = answers_then (λ _. pure (tree_at (t.state c.args.theories.now).stored c.args.common)) h.answer.is
+          (pure_answers (tree_at (t.state c.coerce_under.new.theories).stored) (t.state c.coerce_under.new.theories).stored ((t.state c.coerce_under.new.theories).declares c.args.theory) c.coerce_under.new.conditions.items c.args.common (tree_at (t.state c.args.theories.now).stored c.args.common) h.answer.is.conditions (h.kept.stored.trees c.args.common c.requires.common.node));
+      known = known_kept OfType c.args.common c.in_ok-coerce_under.ensures.kept c.requires.common;
+      kept = h.kept;
+    }

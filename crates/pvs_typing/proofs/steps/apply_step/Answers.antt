@@ -1,7 +1,11 @@
 use Rattle.pvs_typing.proofs.TaskLaws.{apply_follows}
 use Rattle.pvs_typing.proofs.steps.apply_step.Goals as goal
 
-pub returns-clause-ok : goal.returns-clause-ok
-returns-clause-ok g c =
+pub returns : goal.returns
+returns g c =
     let a = c.args in
-    apply_follows c.in_ok-inner.inner a.context a.domain a.term a.from a.to c.in_ok-applied.applied c.in_ok-applied.ensures.kept c.in_ok-inner.ensures c.requires.domain c.requires.coercion c.in_ok-applied.ensures.ok
+    record {
+      ok = apply_follows c.in_ok-inner.inner a.context a.domain a.term a.from a.to c.in_ok-applied.applied c.in_ok-applied.ensures.kept c.in_ok-inner.ensures c.requires.domain c.requires.coercion c.in_ok-applied.ensures.ok;
+      refused = tt;
+      kept = c.in_ok-applied.ensures.kept;
+    }

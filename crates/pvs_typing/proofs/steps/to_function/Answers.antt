@@ -1,7 +1,7 @@
-use Rattle.std.proofs.lemmas.Result.{err_from_is_err_and}
 use Rattle.pvs_terms.specs.declared.shape.Sort.TheVariants.{OfType, OfTerm}
 use Rattle.pvs_typing.proofs.GrowthLaws.{keeps_trans, known_kept, context_kept}
 use Rattle.pvs_typing.proofs.TaskLaws.{function_follows, function_fault}
+use Rattle.pvs_typing.proofs.JudgingLaws.{result_err}
 use Rattle.pvs_typing.proofs.steps.to_function.Goals as goal
 
 pub between_functions-requires-clause-domains : goal.between_functions-requires-clause-domains
@@ -16,22 +16,23 @@ between_functions-requires-clause-ranges g c =
     let h = c.requires.domain in
     record { context = context_kept c.args.context.items k h.context; term = known_kept OfTerm c.args.term k h.term; from = c.in-TFun.ensures.parts.1; to = known_kept OfType c.args.range k c.requires.range }
 
-pub returns-in_err-next-in-TFun-clause-kept : goal.returns-in_err-next-in-TFun-clause-kept
-returns-in_err-next-in-TFun-clause-kept g c = keeps_trans c.in_ok-form.ensures.kept c.in_err-next-in-TFun.ensures.kept
+pub returns-in_err-next-in-TFun : goal.returns-in_err-next-in-TFun
+returns-in_err-next-in-TFun g c =
+    let a = c.args in
+    rw (result_err c.from_residual-in_err-next-in-TFun.result c.from_residual-in_err-next-in-TFun.ensures.1) (record {
+      ok = tt;
+      refused = function_fault a.context a.term a.from c.in_ok-form.form c.in-TFun.domain_from c.in-TFun.range_from a.domain a.range c.in_err-next-in-TFun.field-0.0
+          c.in_ok-form.ensures.kept c.requires.domain c.requires.range c.in_ok-form.ensures.ok c.in-TFun.ensures.tree c.in_err-next-in-TFun.ensures.refused;
+      kept = keeps_trans c.in_ok-form.ensures.kept c.in_err-next-in-TFun.ensures.kept;
+    })
 
-pub returns-in_ok-next-in-TFun-clause-kept : goal.returns-in_ok-next-in-TFun-clause-kept
-returns-in_ok-next-in-TFun-clause-kept g c = keeps_trans c.in_ok-form.ensures.kept c.in_ok-next-in-TFun.ensures.kept
-
-pub returns-in_ok-next-in-TFun-clause-ok : goal.returns-in_ok-next-in-TFun-clause-ok
-returns-in_ok-next-in-TFun-clause-ok g c =
+pub returns-in_ok-next-in-TFun : goal.returns-in_ok-next-in-TFun
+returns-in_ok-next-in-TFun g c =
     let t = g.T.Theories in
     let a = c.args in
-    function_follows (t.stored c.between_functions.new.theories) (t.declares c.between_functions.new.theories a.theory) a.context a.term a.from c.in_ok-form.form c.in-TFun.domain_from c.in-TFun.range_from a.domain a.range c.in_ok-next-in-TFun.next
-    c.requires.ordered c.in_ok-form.ensures.kept c.requires.domain c.requires.range c.in_ok-form.ensures.ok c.in-TFun.ensures.tree c.in_ok-next-in-TFun.ensures.ok
-
-pub returns-in_err-next-in-TFun-clause-refused : goal.returns-in_err-next-in-TFun-clause-refused
-returns-in_err-next-in-TFun-clause-refused g c =
-    let a = c.args in
-    let p = err_from_is_err_and c.from_residual-in_err-next-in-TFun.result c.from_residual-in_err-next-in-TFun.ensures.1 in
-    rw (p.1, p.2) (function_fault a.context a.term a.from c.in_ok-form.form c.in-TFun.domain_from c.in-TFun.range_from a.domain a.range c.in_err-next-in-TFun.field-0.0
-    c.in_ok-form.ensures.kept c.requires.domain c.requires.range c.in_ok-form.ensures.ok c.in-TFun.ensures.tree c.in_err-next-in-TFun.ensures.refused)
+    record {
+      ok = function_follows (t.state c.between_functions.new.theories).stored ((t.state c.between_functions.new.theories).declares a.theory) a.context a.term a.from c.in_ok-form.form c.in-TFun.domain_from c.in-TFun.range_from a.domain a.range c.in_ok-next-in-TFun.next
+          c.requires.ordered c.in_ok-form.ensures.kept c.requires.domain c.requires.range c.in_ok-form.ensures.ok c.in-TFun.ensures.tree c.in_ok-next-in-TFun.ensures.ok;
+      refused = tt;
+      kept = keeps_trans c.in_ok-form.ensures.kept c.in_ok-next-in-TFun.ensures.kept;
+    }
