@@ -126,7 +126,7 @@ kind_named d s (Inst th n xs) m h = of_instance_kind (Inst th n xs) th n xs (the
 abbrev pub IsNamed : Development → Signature → NameKind → Text → Ref → Type 0
 IsNamed d s kind name r = (m : Member) × (member_of d s r ≡ m ∷ []) × (m.kind ≡ kind) × (m.name ≡ name)
 
-found_named : (d : Development) (s : Signature) (rs : List Ref) (is : Ref → Bool) (kind : NameKind) (name : Text) (r : Ref)
+pub found_named : (d : Development) (s : Signature) (rs : List Ref) (is : Ref → Bool) (kind : NameKind) (name : Text) (r : Ref)
     → find is kind name (members d s rs) ≡ Ok r → In r rs × IsNamed d s kind name r
 found_named d s rs is kind name r e =
     let f = found_is is kind name (members d s rs) r e in

@@ -12,16 +12,16 @@ use Rattle.pvs_names.specs.Resolve.{visible_members}
 use Rattle.pvs_names.specs.Laws.{with_entry}
 
 -- own entries below n alone
-abbrev IsOld : ℕ → Ref → Type 0
+abbrev pub IsOld : ℕ → Ref → Type 0
 IsOld n (Own k) = k < n
 IsOld n (Formal k) = Unit {0}
 IsOld n (Inst th k xs) = Unit {0}
 
-abbrev AreOld : ℕ → List Ref → Type 0
+abbrev pub AreOld : ℕ → List Ref → Type 0
 AreOld n [] = Unit {0}
 AreOld n (r ∷ rs) = IsOld n r × AreOld n rs
 
-old_append : (n : ℕ) (rs ss : List Ref) → AreOld n rs → AreOld n ss → AreOld n (rs ++ ss)
+pub old_append : (n : ℕ) (rs ss : List Ref) → AreOld n rs → AreOld n ss → AreOld n (rs ++ ss)
 old_append n [] ss h k = k
 old_append n (r ∷ rs) ss h k = (h.0, old_append n rs ss h.1 k)
 
@@ -34,7 +34,7 @@ instance_old n (Own k) th xs = tt
 instance_old n (Formal k) th xs = tt
 instance_old n (Inst a k ys) th xs = tt
 
-old_if : (n : ℕ) (b : Bool) (rs ss : List Ref) → AreOld n rs → AreOld n ss → AreOld n (if b then rs else ss)
+pub old_if : (n : ℕ) (b : Bool) (rs ss : List Ref) → AreOld n rs → AreOld n ss → AreOld n (if b then rs else ss)
 old_if n true rs ss h k = h
 old_if n false rs ss h k = k
 
@@ -54,7 +54,7 @@ module _ (n : ℕ) (brings : Import → List Ref) (old : (x : Import) → AreOld
   entries_old xs (suc k) l = old_append n (entries_below brings xs k) (Own k ∷ imported_refs_at brings xs (suc k)) (entries_old xs k (omega (arith, l))) (omega (arith, l), imported_at_old xs (suc k))
 
 -- after all places nothing is brought
-not_at : (k n : ℕ) → k ≤ n → nat_eq k (suc n) ≡ false
+pub not_at : (k n : ℕ) → k ≤ n → nat_eq k (suc n) ≡ false
 not_at k n l = go (nat_eq k (suc n)) refl where
   go : (b : Bool) → nat_eq k (suc n) ≡ b → b ≡ false
   go true e = absurd (omega (arith, l, eqb-true k (suc n) e))
@@ -85,18 +85,47 @@ pushed : (n : ℕ) (before rs : List Ref) → AreOld n before → AreOld n rs �
 pushed n before [] h k = ap (λ b. if b then [] else Own n ∷ []) (new_among n before h)
 pushed n before (x ∷ rs) h k = pushed_if (is_among x before) (Own n) x _ _ _ _ (pushed n before rs h k.1) (pushed n (x ∷ before) rs (k.0, h) k.1)
 
-kept_old : (n : ℕ) (before rs : List Ref) → AreOld n rs → AreOld n (without_repeats before rs)
+pub kept_old : (n : ℕ) (before rs : List Ref) → AreOld n rs → AreOld n (without_repeats before rs)
 kept_old n before [] h = tt
 kept_old n before (x ∷ rs) h = old_if n (is_among x before) (without_repeats before rs) (x ∷ without_repeats (x ∷ before) rs) (kept_old n before rs h.1) (h.0, kept_old n (x ∷ before) rs h.1)
 
-get_before : {A : Type 0} (xs : List A) (x : A) (k : ℕ) → k < length xs → slice_get (xs ++ x ∷ []) k ≡ slice_get xs k
+pub get_before : {A : Type 0} (xs : List A) (x : A) (k : ℕ) → k < length xs → slice_get (xs ++ x ∷ []) k ≡ slice_get xs k
 get_before [] x k l = absurd (omega (arith, l))
 get_before (y ∷ xs) x zero l = refl
 get_before (y ∷ xs) x (suc k) l = get_before xs x k (omega (arith, l))
 
-get_last : {A : Type 0} (xs : List A) (x : A) → slice_get (xs ++ x ∷ []) (length xs) ≡ Some x
+pub get_last : {A : Type 0} (xs : List A) (x : A) → slice_get (xs ++ x ∷ []) (length xs) ≡ Some x
 get_last [] x = refl
 get_last (y ∷ xs) x = get_last xs x
+
+pub members_append : (d : Development) (s : Signature) (rs ss : List Ref) → members d s (rs ++ ss) ≡ members d s rs ++ members d s ss
+members_append d s [] ss = refl
+members_append d s (r ∷ rs) ss = ap (λ z. member_of d s r ++ z) (members_append d s rs ss) ∙ sym (append_assoc (member_of d s r) (members d s rs) (members d s ss))
+
+-- the place after all entries sees all formals
+pub seen_at_end : (s : Signature) (i : ℕ) → length s.entries ≤ i → formals_seen s i ≡ length s.formals
+seen_at_end s i l = ap (λ o. seen_by (length s.formals) (option_map entry_kind o)) (slice_get_past s.entries i l)
+
+module _ (d : Development) (s : Signature) where
+  abbrev brings : Import → List Ref
+  brings x = imported_refs (theory_named d x.theory) x.theory x.actuals (whole_scope d x.theory)
+
+  -- own entries and what importings bring, up to the end
+  abbrev pub entries_at_end : List Ref
+  entries_at_end = entries_below brings s.imports (length s.entries)
+
+  abbrev refs : List Ref
+  refs = formals_below (length s.formals) ++ entries_at_end
+
+  refs_old : AreOld (length s.entries) refs
+  refs_old = old_append (length s.entries) (formals_below (length s.formals)) entries_at_end (formals_old (length s.entries) (length s.formals))
+      (entries_old (length s.entries) brings (λ x. imported_old (length s.entries) (theory_named d x.theory) x.theory x.actuals (whole_scope d x.theory)) s.imports (length s.entries) (omega arith))
+
+  pub scope_is : scope d s (length s.entries) ≡ without_repeats [] (formals_below (length s.formals) ++ entries_at_end)
+  scope_is = ap (λ f. without_repeats [] (formals_below f ++ entries_at_end)) (seen_at_end s (length s.entries) (omega arith))
+
+  pub scope_old : AreOld (length s.entries) (scope d s (length s.entries))
+  scope_old = subst (AreOld (length s.entries)) (sym scope_is) (kept_old (length s.entries) [] refs refs_old)
 
 module _ (d : Development) (s : Signature) (e : Entry) where
   abbrev n : ℕ
@@ -111,39 +140,19 @@ module _ (d : Development) (s : Signature) (e : Entry) where
   members_kept [] h = refl
   members_kept (r ∷ rs) h = ap₂ (λ x y. x ++ y) (member_kept r h.0) (members_kept rs h.1)
 
-  members_append : (g : Signature) (rs ss : List Ref) → members d g (rs ++ ss) ≡ members d g rs ++ members d g ss
-  members_append g [] ss = refl
-  members_append g (r ∷ rs) ss = ap (λ z. member_of d g r ++ z) (members_append g rs ss) ∙ sym (append_assoc (member_of d g r) (members d g rs) (members d g ss))
-
-  abbrev brings : Import → List Ref
-  brings x = imported_refs (theory_named d x.theory) x.theory x.actuals (whole_scope d x.theory)
-
-  abbrev refs : List Ref
-  refs = formals_below (length s.formals) ++ entries_below brings s.imports n
-
-  refs_old : AreOld n refs
-  refs_old = old_append n (formals_below (length s.formals)) (entries_below brings s.imports n) (formals_old n (length s.formals))
-      (entries_old n brings (λ x. imported_old n (theory_named d x.theory) x.theory x.actuals (whole_scope d x.theory)) s.imports n (omega arith))
-
-  seen_at_end : (g : Signature) (i : ℕ) → length g.entries ≤ i → formals_seen g i ≡ length g.formals
-  seen_at_end g i l = ap (λ o. seen_by (length g.formals) (option_map entry_kind o)) (slice_get_past g.entries i l)
-
-  scope_is : scope d s n ≡ without_repeats [] refs
-  scope_is = ap (λ f. without_repeats [] (formals_below f ++ entries_below brings s.imports n)) (seen_at_end s n (omega arith))
-
   length_is : length (with_entry s e).entries ≤ suc n
   length_is = let h : length (s.entries ++ e ∷ []) ≡ n + 1 = length-append s.entries (e ∷ []) in omega (arith, h)
 
-  grown_scope : ((x : Import) → In x s.imports → x.place ≤ n) → scope d (with_entry s e) (suc n) ≡ scope d s n ++ Own n ∷ []
+  pub grown_scope : ((x : Import) → In x s.imports → x.place ≤ n) → scope d (with_entry s e) (suc n) ≡ scope d s n ++ Own n ∷ []
   grown_scope places =
-      ap (λ f. without_repeats [] (formals_below f ++ entries_below brings s.imports (suc n))) (seen_at_end (with_entry s e) (suc n) length_is)
-      ∙ ap (λ z. without_repeats [] (formals_below (length s.formals) ++ (entries_below brings s.imports n ++ Own n ∷ z))) (none_at brings s.imports n places)
-      ∙ ap (without_repeats []) (sym (append_assoc (formals_below (length s.formals)) (entries_below brings s.imports n) (Own n ∷ [])))
-      ∙ pushed n [] refs tt refs_old
-      ∙ ap (λ z. z ++ Own n ∷ []) (sym scope_is)
+      ap (λ f. without_repeats [] (formals_below f ++ entries_below (brings d s) s.imports (suc n))) (seen_at_end (with_entry s e) (suc n) length_is)
+      ∙ ap (λ z. without_repeats [] (formals_below (length s.formals) ++ (entries_at_end d s ++ Own n ∷ z))) (none_at (brings d s) s.imports n places)
+      ∙ ap (without_repeats []) (sym (append_assoc (formals_below (length s.formals)) (entries_at_end d s) (Own n ∷ [])))
+      ∙ pushed n [] (refs d s) tt (refs_old d s)
+      ∙ ap (λ z. z ++ Own n ∷ []) (sym (scope_is d s))
 
   pub members_grow : ((x : Import) → In x s.imports → x.place ≤ n) → visible_members d (with_entry s e) (suc n) ≡ visible_members d s n ++ record { name = e.name; kind = name_kind e.kind; reference = Own n } ∷ []
   members_grow places =
       ap (members d (with_entry s e)) (grown_scope places)
-      ∙ members_append (with_entry s e) (scope d s n) (Own n ∷ [])
-      ∙ ap₂ (λ x y. x ++ (y ++ [])) (members_kept (scope d s n) (subst (AreOld n) (sym scope_is) (kept_old n [] refs refs_old))) (ap (of_entry (Own n)) (get_last s.entries e))
+      ∙ members_append d (with_entry s e) (scope d s n) (Own n ∷ [])
+      ∙ ap₂ (λ x y. x ++ (y ++ [])) (members_kept (scope d s n) (scope_old d s)) (ap (of_entry (Own n)) (get_last s.entries e))

@@ -1,3 +1,9 @@
 pub mod FindLaws
+pub mod KeyLaws
+pub mod MemberLaws
+pub mod SectionLaws
+pub mod SearchLaws
+pub mod PlaceLaws
+pub mod VisibleLaws
 pub mod GrowthLaws
 pub mod Examples

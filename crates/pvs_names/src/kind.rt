@@ -2,7 +2,7 @@
 
 /// What a name is looked up as (PVS Language Reference, names). Each kind has names of its own: a
 /// type, a constant and a formula of one name are three.
-#[derive(Clone, Copy, Debug, PartialEq, Eq)]
+#[derive(Clone, Copy, Debug, PartialEq, Eq, Hash)]
 pub enum NameKind {
     /// A type.
     TypeName,

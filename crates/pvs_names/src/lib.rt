@@ -3,9 +3,28 @@
 
 ghost use Rattle.pvs_names.specs.Laws.{IndexesKeepNames, PlainNamesAreIndexed, ResolvedAreVisible, ResolvedAreNamed, ResolvedHaveKinds, MembersGrow};
 
+mod fault;
+mod index;
+mod key;
 mod kind;
+mod members;
+mod names;
+mod qualifier;
+mod search;
+mod visible;
 
+pub use fault::NameFault;
+pub use index::{Found, NameIndex};
+pub use key::{Key, Section};
 pub use kind::NameKind;
+pub use members::{add_entry, add_formal, add_instance};
+pub use names::{Names, resolve};
+pub use qualifier::Qualifier;
+pub use search::{resolve_by_instance, resolve_by_theory, resolve_own, resolve_plain};
+pub use visible::VisibleInstances;
+
+#[cfg(test)]
+mod tests;
 
 /// What `resolve` promises, for all developments, signatures and names. The call does nothing: its contract states it.
 ///
