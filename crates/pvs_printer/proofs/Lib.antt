@@ -1,0 +1,4 @@
+pub mod BySizeLaws
+pub mod RowLaws
+pub mod FormLaws
+pub mod Examples
