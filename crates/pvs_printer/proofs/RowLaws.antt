@@ -206,7 +206,7 @@ climbed_le : (b : Bool) (k : ℕ) (x : Tree) (r : Tree × ℕ) → size r.0 ≤ 
 climbed_le true k x r h = omega arith
 climbed_le false k x r h = omega arith
 
-climb_le : (k : ℕ) (x : Tree) → size (climb k x).0 ≤ size x
+pub climb_le : (k : ℕ) (x : Tree) → size (climb k x).0 ≤ size x
 climb_le k (t.Snd j x) = climbed_le (j == k) j x (climb (suc k) x) (climb_le (suc k) x)
 climb_le k (t.Fst j x) = omega arith
 climb_le k (t.Leaf o) = omega arith

@@ -7,3 +7,4 @@ pub mod Form
 pub mod TreeForm
 pub mod Pieces
 pub mod Text
+pub mod code
