@@ -1,0 +1,10 @@
+pub mod BySizeLaws
+pub mod RowLaws
+pub mod FormLaws
+pub mod Examples
+pub mod StepLaws
+pub mod MentionLaws
+pub mod PartsLaws
+pub mod TaskLaws
+pub mod PushLaws
+pub mod LoopLaws

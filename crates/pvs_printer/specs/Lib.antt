@@ -1,0 +1,10 @@
+pub mod BySize
+pub mod Row
+pub mod RowTree
+pub mod Mentions
+pub mod Names
+pub mod Form
+pub mod TreeForm
+pub mod Pieces
+pub mod Text
+pub mod code

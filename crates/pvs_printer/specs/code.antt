@@ -1,0 +1,4 @@
+pub mod Steps
+pub mod Tasks
+pub mod TasksAt
+pub mod RowsAt
