@@ -11,3 +11,6 @@ mod writing;
 
 pub use printing::{print_term, print_type};
 pub use words::{BinderWord, InfixWord, Sign};
+
+#[cfg(test)]
+mod tests;
