@@ -1,0 +1,12 @@
+pub mod AcceptedLaws
+pub mod ScopedLaws
+pub mod WellSortedLaws
+pub mod LocalForms
+pub mod LocalCoerce
+pub mod LocalTyping
+pub mod MentionedLaws
+pub mod WithinLaws
+pub mod ClosedLaws
+pub mod KindSound
+pub mod DeclaredLaws
+pub mod TheorySound

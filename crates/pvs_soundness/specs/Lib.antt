@@ -1,0 +1,9 @@
+pub mod Scoped
+pub mod WellSorted
+pub mod Local
+pub mod Mentioned
+pub mod Within
+pub mod Fits
+pub mod Checked
+pub mod Read
+pub mod Laws

@@ -1,0 +1,20 @@
+-- Look-ups cut down to a set of references.
+use Rattle.std.specs.Prelude.{ℕ, Bool, false, ◌&&◌, if◌then◌else◌, nat_lt, None}
+use Rattle.pvs_terms.specs.Tree.{Ref, Own, Formal, Inst}
+use Rattle.pvs_sig.specs.Lookups.{Lookups}
+
+-- own entries below this number
+abbrev pub is_own_below : ℕ → Ref → Bool
+is_own_below n (Own k) = nat_lt k n
+is_own_below n (Formal k) = false
+is_own_below n (Inst th k xs) = false
+
+-- nothing is found for a reference that is not in the set
+abbrev pub within : (Ref → Bool) → Lookups → Lookups
+within p s = record {
+  type_of = λ r. if p r then s.type_of r else None;
+  body_of = λ r. if p r then s.body_of r else None;
+  is_type = λ r. p r && s.is_type r;
+  is_nonempty = λ r. p r && s.is_nonempty r;
+  rank = s.rank;
+}
