@@ -30,7 +30,7 @@ use Rattle.pvs_soundness.proofs.LocalTyping.{answered_alike}
 use Rattle.pvs_soundness.proofs.WithinLaws.{within_agrees, within_ordered}
 use Rattle.pvs_soundness.proofs.ClosedLaws.{mean_closed}
 
-was_accepted : {A : Type 0} (P : Type 0) (o : Outcome A) (a : A) (us : List Ref) → o ≡ Accepted a [] us → WhereAccepted P o → P
+pub was_accepted : {A : Type 0} (P : Type 0) (o : Outcome A) (a : A) (us : List Ref) → o ≡ Accepted a [] us → WhereAccepted P o → P
 was_accepted P o a us e h = subst (WhereAccepted P) e h
 
 pub formed_scoped : (P : Ref → Type 0) (s : Lookups) (a : Tree) → IsFormedBy P s [] a → IsScoped 0 a

@@ -10,3 +10,4 @@ pub mod ClosedLaws
 pub mod KindSound
 pub mod DeclaredLaws
 pub mod TheorySound
+pub mod ReadLaws

@@ -290,7 +290,7 @@ module _ (P : Ref → Type 0) (s u : Lookups) (ordered : IsOrdered s) (ordered' 
       let hy = typing_local a sorted.4 p.1 in
       let hz = typing_local b sorted.5 p.2 in
       let base = term_local (If t a b) _ _ tt p (if_local t a b (typing s t) (typing u t) (typing s a) (typing u a) (typing s b) (typing u b)
-          (proper a sorted.4 sorted.1) (proper b sorted.5 sorted.2) p hx hy hz) in
+      (proper a sorted.4 sorted.1) (proper b sorted.5 sorted.2) p hx hy hz) in
       record {
         infer = base.infer;
         check = λ g c q w. if_check_local t (typing s t) (typing u t) (typing s a) (typing u a) (typing s b) (typing u b) p.0 hx hy hz g c q w;

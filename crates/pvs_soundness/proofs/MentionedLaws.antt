@@ -228,6 +228,7 @@ module _ (P : Ref → Type 0) (s : Lookups) (names : Names) (ordered : IsOrdered
           → Holds (λ t. EachRef P t.tree × EachRef P t.ty) r
       both_in h q (Ok t) g k = (k, inferred_each P s ordered closed h.context q.context t.tree t.ty k g)
       both_in h q (Err e) g k = tt
+
       both : (h : Here) → EachHere P h → Holds (λ t. EachRef P t.tree × EachRef P t.ty) (v.infer h)
       both h q = both_in h q (v.infer h) (lawful.infer h) (lv.infer h q)
 
@@ -262,10 +263,13 @@ module _ (P : Ref → Type 0) (s : Lookups) (names : Names) (ordered : IsOrdered
           → Holds (λ t. EachRef P t.tree × EachRef P t.ty) r
       both_in h q (Ok t) g k = (k, inferred_each P s ordered closed h.context q.context t.tree t.ty k g)
       both_in h q (Err e) g k = tt
+
       both : (h : Here) → EachHere P h → Holds (λ t. EachRef P t.tree × EachRef P t.ty) (x.infer h)
       both h q = both_in h q (x.infer h) (lawful.infer h) (lx.infer h q)
+
       headed : (b d : Tree) → EachRef P b → Gives (from_result (head s b)) d → EachRef P d
       headed b d p g = head_each P s ordered closed b d p g
+
       domain_in : (d a : Tree) → EachRef P d → Gives (elaboration.domain_of s d) a → EachRef P a
       domain_in d a p g = domain_each P s d a p g
 

@@ -1,5 +1,5 @@
 -- What checked theories promise.
-use Rattle.std.specs.Prelude.{◌≡◌, ℕ, Bool, true, [], Some, Ok}
+use Rattle.std.specs.Prelude.{◌≡◌, ℕ, Bool, true, List, [], Some, Ok}
 use Rattle.pvs_terms.specs.Tree.{Text, Tree, Ref, IsClosed}
 use Rattle.pvs_syntax.specs.declared.unit.Decl.{Decl}
 use Rattle.pvs_terms.specs.Sorts.{IsType, IsTerm}
@@ -22,6 +22,7 @@ use Rattle.pvs_soundness.specs.Mentioned.{EachName, StaysIn}
 use Rattle.pvs_soundness.specs.Checked.{IsClear, IsFormedBy, IsKindBy}
 use Rattle.pvs_soundness.specs.Fits.{IsInsideKind}
 use Rattle.pvs_soundness.specs.Read.{IsPlain, FitsBefore}
+use Rattle.pvs_soundness.specs.Theory.{CheckedTheory, all_declared, unread, StaysOver}
 
 -- where typing accepts, this holds
 abbrev pub WhereAccepted : {A : Type 0} → Type 0 → Outcome A → Type 0
@@ -60,6 +61,12 @@ abbrev pub DeclarationsAreAccepted : Type 0
 DeclarationsAreAccepted = (p : Ref → Bool) (s : Lookups) (names : Names) → IsOrdered s → IsClosedSet (InSet p) s → EachName (InSet p) names
     → ((x : Text) (v : TypedVariable) → names.variable_named x ≡ Ok v → IsFormedBy (InSet p) s [] v.ty)
     → (text : Text) (d : Decl) → Holds (λ (e : CheckedEntry). IsClear e.typing → IsKindBy (InSet p) s e.kind) (declaration s names text d)
+
+-- A theory that is read from its declarations, where none owes a condition and each signature on the way stands over the
+-- theories, is one whose entries typing accepts over those before them.
+abbrev pub TheoriesAreAccepted : Type 0
+TheoriesAreAccepted = (d : Development) → IsDevelopment d → (text name : Text) (xs : List Decl) → StaysOver d text (unread name) xs
+    → (t : CheckedTheory) → all_declared d text (unread name) xs ≡ Ok t → IsPlain d t.signature
 
 -- In a model that fits the entries before it, each entry is inside.
 abbrev pub EntriesAreInside : Type 0

@@ -6,4 +6,5 @@ pub mod Within
 pub mod Fits
 pub mod Checked
 pub mod Read
+pub mod Theory
 pub mod Laws

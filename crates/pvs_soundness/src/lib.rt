@@ -4,7 +4,7 @@
 //! After Owre and Shankar, The Formal Semantics of PVS (CSL-97-2), models of theories.
 #![tactic(auto)]
 
-ghost use Rattle.pvs_soundness.specs.Laws.{AcceptedTreesAreClosed, AcceptedTreesAreWellSorted, TypingIsLocal, ElaborationStaysIn, DeclarationsAreAccepted, EntriesAreInside};
+ghost use Rattle.pvs_soundness.specs.Laws.{AcceptedTreesAreClosed, AcceptedTreesAreWellSorted, TypingIsLocal, ElaborationStaysIn, DeclarationsAreAccepted, TheoriesAreAccepted, EntriesAreInside};
 
 /// What holds of the trees that typing accepts. The call does nothing: its contract states it.
 ///
@@ -24,5 +24,6 @@ pub fn accepted_trees_are_lawful()
 pub fn theories_are_sound()
     ensures mentioned { ElaborationStaysIn }
     ensures declarations { DeclarationsAreAccepted }
+    ensures theories { TheoriesAreAccepted }
     ensures entries { EntriesAreInside }
 {}

@@ -1,0 +1,290 @@
+-- A declaration without conditions, added to a theory whose entries typing accepted, leaves a theory of which the same
+-- holds.
+use Rattle.std.proofs.Common.{◌≡◌, ◌⊎◌, inl, inr, ℕ, zero, suc, ◌<◌, ◌≤◌, Bool, true, false, List, [], ◌∷◌, ◌++◌, length, Option, Some, None, Result, Ok, Err, refl, ap, ◌∙◌, sym, subst, arith}
+use Rattle.std.specs.Prelude.{slice_get, option_map, if◌then◌else◌}
+use Rattle.std.proofs.lemmas.Bool.{lt-ltb, ltb-true}
+use Rattle.std.proofs.lemmas.Option.{slice_get_past}
+use Rattle.pvs_base.specs.Answers.{◌>>=◌}
+use Rattle.pvs_base.specs.declared.code.Code.{Code}
+use Rattle.pvs_base.specs.declared.code.Code.TheVariants.{Unknown, OutOfProfile}
+use Rattle.pvs_terms.specs.Tree.{Text, Tree, Ref, Own, Formal, Inst, TName, Const, TBool}
+use Rattle.pvs_subst.specs.Contexts.{Assumptions, Variable}
+use Rattle.pvs_syntax.specs.declared.unit.Decl.{Decl}
+use Rattle.pvs_sig.specs.Lookups.{Lookups, IsOrdered}
+use Rattle.pvs_sig.specs.LookupsOf.{lookups_of, kind_lookup, constant_type, is_type_kind, is_nonempty_kind}
+use Rattle.pvs_sig.specs.Ranks.{type_body}
+use Rattle.pvs_sig.specs.References.{EachRef}
+use Rattle.pvs_sig.specs.Signature.{Signature, Entry, Kind, TypeSig, ConstSig, VarSig, FormulaSig, kind_at, entry_kind}
+use Rattle.pvs_sig.specs.Development.{Development, IsDevelopment, IsSignatureOver, In, kind_of, seen_by, formals_seen}
+use Rattle.pvs_sig.specs.Scope.{scope, IsVisible, of_formal, of_own, of_import}
+use Rattle.pvs_sig.proofs.ScopeLaws.{in_scope}
+use Rattle.pvs_sig.proofs.RankLaws.{lookups_are_ordered}
+use Rattle.pvs_names.specs.declared.kind.NameKind.{NameKind}
+use Rattle.pvs_names.specs.declared.kind.NameKind.TheVariants.{TypeName, Constant, FormulaName}
+use Rattle.pvs_names.specs.Members.{find}
+use Rattle.pvs_names.specs.Resolve.{resolve, is_own, is_imported, is_outside, in_profile, resolve_plain, or_else, visible_members, any_formula}
+use Rattle.pvs_names.proofs.FindLaws.{resolved_is}
+use Rattle.pvs_types.specs.Outcome.{Accepted, Conditions}
+use Rattle.pvs_types.specs.Typing.{check, well_formed}
+use Rattle.pvs_elab.specs.Answer.{Answer}
+use Rattle.pvs_elab.specs.Names.{TypedVariable, names_at, constant_kind, variable_kind}
+use Rattle.pvs_elab.specs.Formula.{FreeVariable, binders_of}
+use Rattle.pvs_elab.specs.Declaration.{CheckedEntry, ElaboratedDecl, declaration, decl_place, elab_decl}
+use Rattle.pvs_elab.specs.Laws.{Holds}
+use Rattle.pvs_elab.proofs.DeclarationLaws.{declared_is}
+use Rattle.pvs_soundness.specs.Local.{AgreesWith, IsClosedSet, EachAssumed}
+use Rattle.pvs_soundness.specs.Mentioned.{EachName}
+use Rattle.pvs_soundness.specs.Checked.{IsClear, IsFormedBy, IsCheckedBy, IsDefinedBy, plainly, under_parameter, AreFormedBy, IsKindBy}
+use Rattle.pvs_soundness.specs.Read.{IsPlain}
+use Rattle.pvs_soundness.specs.Theory.{CheckedTheory, declared_name, with_entry, lookups_after, names_after, without_conditions, entered, declared, all_declared, unread, StaysOver}
+use Rattle.pvs_soundness.proofs.WellSortedLaws.{accepted_sorted}
+use Rattle.pvs_soundness.proofs.LocalTyping.{answered_alike}
+use Rattle.pvs_soundness.proofs.DeclaredLaws.{declaration_sound}
+use Rattle.pvs_soundness.proofs.KindSound.{was_accepted}
+use Rattle.pvs_soundness.proofs.TheorySound.{Below, each_later, set_closed}
+
+-- What typing accepted by some look-ups, it accepts by others that agree.
+module _ (P : Ref → Type 0) (s u : Lookups) (ordered : IsOrdered s) (ordered' : IsOrdered u) (agree : AgreesWith P s u) (closed : IsClosedSet P s) where
+  formed_alike : (a : Tree) → IsFormedBy P s [] a → IsFormedBy P u [] a
+  formed_alike a h =
+      let sorted = (was_accepted _ (well_formed s [] a) tt h.used h.accepted (accepted_sorted s [] a a).2).1 in
+      record { each = h.each; used = h.used; accepted = sym (answered_alike P s u ordered ordered' agree closed [] tt a a sorted h.each h.each).well_formed ∙ h.accepted }
+
+  checked_alike : (g : Assumptions) → EachAssumed P g → (t a : Tree) → IsCheckedBy P s g t a → IsCheckedBy P u g t a
+  checked_alike g q t a h =
+      let sorted = (was_accepted _ (check s g t a) tt h.used h.accepted (accepted_sorted s g t a).1).1 in
+      record { each = h.each; type_each = h.type_each; used = h.used; accepted = sym (answered_alike P s u ordered ordered' agree closed g q t a sorted h.each h.type_each).check ∙ h.accepted }
+
+  defined_alike : (t a : Tree) → IsDefinedBy P s t a → IsDefinedBy P u t a
+  defined_alike t a (plainly h) = plainly (checked_alike [] tt t a h)
+  defined_alike t a (under_parameter c b r ea et hc h) = under_parameter c b r ea et (formed_alike c hc) (checked_alike (Variable c ∷ []) (hc.each, tt) b r h)
+
+  variables_alike : (bs : List FreeVariable) → AreFormedBy P s bs → AreFormedBy P u bs
+  variables_alike [] h = tt
+  variables_alike (b ∷ bs) h = (formed_alike b.ty h.0, variables_alike bs h.1)
+
+  each_binder : (bs : List FreeVariable) → AreFormedBy P s bs → EachAssumed P (binders_of bs)
+  each_binder [] h = tt
+  each_binder (b ∷ bs) h = (h.0.each, each_binder bs h.1)
+
+  kind_alike : (k : Kind) → IsKindBy P s k → IsKindBy P u k
+  kind_alike (TypeSig b None) h = tt
+  kind_alike (TypeSig b (Some a)) h = formed_alike a h
+  kind_alike (ConstSig a None) h = formed_alike a h
+  kind_alike (ConstSig a (Some t)) h = (formed_alike a h.0, defined_alike t a h.1)
+  kind_alike (VarSig a) h = formed_alike a h
+  kind_alike (FormulaSig c t o) h = record {
+    variables = h.variables;
+    open_tree = h.open_tree;
+    formed = variables_alike h.variables h.formed;
+    checked = checked_alike (binders_of h.variables) (each_binder h.variables h.formed) h.open_tree TBool h.checked;
+    closed = h.closed;
+  }
+
+-- an item of a list with one more
+last_item : {A : Type 0} (xs : List A) (e x : A) (k : ℕ) → slice_get (xs ++ e ∷ []) k ≡ Some x → (slice_get xs k ≡ Some x) ⊎ ((k ≡ length xs) × (e ≡ x))
+last_item [] e x zero h = inr (refl, cc)
+last_item [] e x (suc k) h = cc
+last_item (y ∷ ys) e x zero h = inl h
+last_item (y ∷ ys) e x (suc k) h = elim (last_item ys e x k h) [ inl a ↦ inl a | inr b ↦ inr (ap suc b.0, b.1) ]
+
+earlier_item : {A : Type 0} (xs : List A) (e : A) (k : ℕ) → k < length xs → slice_get (xs ++ e ∷ []) k ≡ slice_get xs k
+earlier_item [] e k l = absurd (omega (arith, l))
+earlier_item (y ∷ ys) e zero l = refl
+earlier_item (y ∷ ys) e (suc k) l = earlier_item ys e k (omega (arith, l))
+
+is_item : {A : Type 0} (xs : List A) (x : A) (k : ℕ) → slice_get xs k ≡ Some x → k < length xs
+is_item [] x k h = cc
+is_item (y ∷ ys) x zero h = omega arith
+is_item (y ∷ ys) x (suc k) h = let r = is_item ys x k h in omega (arith, r)
+
+outside_never : (b : Bool) (r : Ref) → ◌≡◌ {A = Result Ref Code} (if b then Err OutOfProfile else Err Unknown) (Ok r) → ⊥
+outside_never true r e = cc
+outside_never false r e = cc
+
+-- a name of the profile is found as it is
+found_in_profile : (x : Text) (q : Result Ref Code) (r : Ref) → in_profile x q ≡ Ok r → q ≡ Ok r
+found_in_profile x (Ok p) r e = e
+found_in_profile x (Err Unknown) r e = absurd (outside_never (is_outside x) r e)
+found_in_profile x (Err c) r e = e
+
+no_formula : (kind : NameKind) → (kind ≡ FormulaName → ⊥) → {P : Type 0} → P ⊎ (kind ≡ FormulaName) → P
+no_formula kind n (inl p) = p
+no_formula kind n (inr e) = absurd (n e)
+
+module _ (d : Development) (s : Signature) (plain : IsPlain d s) where
+  abbrev Size : ℕ
+  Size = length s.entries
+
+  -- a place at the end sees own entries alone
+  seen_own : (r : Ref) → IsVisible d s Size r → Below Size r
+  seen_own r (of_formal n l e) = absurd (no_formal n l)
+    where
+      no_kind : kind_at s Size ≡ None
+      no_kind = ap (option_map entry_kind) (slice_get_past s.entries Size (omega arith))
+
+      none_seen : formals_seen s Size ≡ 0
+      none_seen = ap (seen_by (length s.formals)) no_kind ∙ ap length plain.formals
+
+      no_formal : (n : ℕ) → n < formals_seen s Size → ⊥
+      no_formal n l = let z = none_seen in omega (arith, l, z)
+  seen_own r (of_own n l e) = subst (Below Size) (sym e) (lt-ltb n Size l)
+  seen_own r (of_import x q h l k b e) = absurd (subst (In x) plain.imports h)
+
+  own_each : (o : Ref → Tree) → ((r : Ref) → Below Size r → EachRef (Below Size) (o r)) → (r : Ref) → In r (scope d s Size) → EachRef (Below Size) (o r)
+  own_each o f r h = f r (seen_own r (in_scope d s Size r h))
+
+  name_below : (r : Ref) → Below Size r → EachRef (Below Size) (TName r)
+  name_below (Own n) h = (h, tt)
+  name_below (Formal n) h = cc
+  name_below (Inst th n xs) h = cc
+
+  constant_below : (r : Ref) → Below Size r → EachRef (Below Size) (Const r)
+  constant_below (Own n) h = (h, tt)
+  constant_below (Formal n) h = cc
+  constant_below (Inst th n xs) h = cc
+
+  resolved_below : (kind : NameKind) → (kind ≡ FormulaName → ⊥) → (x : Text) (r : Ref) → resolve d s Size kind None x ≡ Ok r → Below Size r
+  resolved_below kind n x r e = seen_own r (in_scope d s Size r (no_formula kind n (resolved_is d s Size kind x r None e).0))
+
+  plain_below : (kind : NameKind) → (kind ≡ FormulaName → ⊥) → (x : Text) (r : Ref) → resolve_plain d s Size kind x ≡ Ok r → Below Size r
+  plain_below kind n x r e = resolved_below kind n x r (found_in_profile x (resolve d s Size kind None x) r e)
+
+  types_below : (x : Text) (r : Ref) → (names_at d s Size).type_named x ≡ Ok r → EachRef (Below Size) (TName r)
+  types_below x r e = name_below r (plain_below TypeName (λ h. cc) x r e)
+
+  constant_is : (x : Text) (q r : Ref) (o : Option Kind) → constant_kind x q o ≡ Ok r → q ≡ r
+  constant_is x q r (Some (VarSig t)) h = absurd (outside_never (is_outside x) r h)
+  constant_is x q r (Some (TypeSig b t)) h = cc
+  constant_is x q r (Some (ConstSig a t)) h = cc
+  constant_is x q r (Some (FormulaSig c t o)) h = cc
+  constant_is x q r None h = cc
+
+  constant_of : (x : Text) (q : Result Ref Code) → resolve_plain d s Size Constant x ≡ q → (r : Ref) → (q >>= (λ p. constant_kind x p (kind_of d s p))) ≡ Ok r → Below Size r
+  constant_of x (Err c) k r e = absurd (cc)
+  constant_of x (Ok p) k r e = subst (Below Size) (constant_is x p r (kind_of d s p) e) (plain_below Constant (λ h. cc) x p k)
+
+  constants_below : (x : Text) (r : Ref) → (names_at d s Size).constant_named x ≡ Ok r → EachRef (Below Size) (Const r)
+  constants_below x r e = constant_below r (constant_of x (resolve_plain d s Size Constant x) refl r e)
+
+  -- a VAR is an own entry, whose type was accepted
+  formed_later : (k : ℕ) (t : Tree) → k < Size → IsFormedBy (Below k) (lookups_of d s) [] t → IsFormedBy (Below Size) (lookups_of d s) [] t
+  formed_later k t l h = record { each = each_later k Size (omega (arith, l)) t h.each; used = h.used; accepted = h.accepted }
+
+  variable_entry : (q : Ref) (t : Tree) → Below Size q → kind_of d s q ≡ Some (VarSig t) → IsFormedBy (Below Size) (lookups_of d s) [] t
+  variable_entry (Own k) t p e = formed_later k t (ltb-true k Size p) (plain.entries k (VarSig t) e)
+  variable_entry (Formal k) t p e = cc
+  variable_entry (Inst th k xs) t p e = cc
+
+  variable_is : (q : Ref) (o : Option Kind) (v : TypedVariable) → variable_kind q o ≡ Ok v → o ≡ Some (VarSig v.ty)
+  variable_is q (Some (VarSig t)) v h = let same : record { reference = q; ty = t } ≡ v = cc in ap (λ (w : TypedVariable). Some (VarSig w.ty)) same
+  variable_is q (Some (TypeSig b t)) v h = cc
+  variable_is q (Some (ConstSig a t)) v h = cc
+  variable_is q (Some (FormulaSig c t o)) v h = cc
+  variable_is q None v h = cc
+
+  own_found : (x : Text) (q : Ref) → find is_own Constant x (visible_members d s Size) ≡ Ok q → resolve d s Size Constant None x ≡ Ok q
+  own_found x q e = ap (λ r. or_else (or_else r (find is_imported Constant x (visible_members d s Size))) (any_formula d s Constant x)) e
+
+  variable_of : (x : Text) (q : Result Ref Code) → find is_own Constant x (visible_members d s Size) ≡ q → (v : TypedVariable) → (q >>= (λ r. variable_kind r (kind_of d s r))) ≡ Ok v → IsFormedBy (Below Size) (lookups_of d s) [] v.ty
+  variable_of x (Err c) k v e = absurd (cc)
+  variable_of x (Ok q) k v e = variable_entry q v.ty (resolved_below Constant (λ h. cc) x q (own_found x q k)) (variable_is q (kind_of d s q) v e)
+
+  variables_formed : (x : Text) (v : TypedVariable) → (names_at d s Size).variable_named x ≡ Ok v → IsFormedBy (Below Size) (lookups_of d s) [] v.ty
+  variables_formed x v e = variable_of x (find is_own Constant x (visible_members d s Size)) refl v e
+
+  names_each : EachName (Below Size) (names_at d s Size)
+  names_each = record { types = types_below; constants = constants_below; variables = λ x v e. (variables_formed x v e).each }
+
+  -- with one more entry
+  abbrev Grown : Entry → Signature
+  Grown e = record s { entries = s.entries ++ e ∷ [] }
+
+  kind_before : (e : Entry) (k : ℕ) → k < Size → kind_at (Grown e) k ≡ kind_at s k
+  kind_before e k l = ap (option_map entry_kind) (earlier_item s.entries e k l)
+
+  grown_agrees : (e : Entry) (k : ℕ) → k ≤ Size → AgreesWith (Below k) (lookups_of d s) (lookups_of d (Grown e))
+  grown_agrees e k l = record {
+    types = λ r h. by_own (λ o. constant_type o) r h;
+    bodies = λ r h. by_own (λ o. type_body o) r h;
+    names = λ r h. by_own (λ o. is_type_kind o) r h;
+    nonempty = λ r h. by_own (λ o. is_nonempty_kind o) r h;
+  }
+    where
+      by_own : {A : Type 0} (f : Option Kind → A) (r : Ref) → Below k r → f (kind_lookup d s r) ≡ f (kind_lookup d (Grown e) r)
+      by_own f (Own j) h = let b = ltb-true j k h in ap f (sym (kind_before e j (omega (arith, b, l))))
+      by_own f (Formal j) h = cc
+      by_own f (Inst th j xs) h = cc
+
+  module _ (development : IsDevelopment d) (over : IsSignatureOver d s) where
+    ordered : IsOrdered (lookups_of d s)
+    ordered = lookups_are_ordered d s development over
+
+    grown_entry : (e : Entry) → IsSignatureOver d (Grown e) → IsKindBy (Below Size) (lookups_of d s) e.kind → (k : ℕ) (x : Kind)
+        → (slice_get s.entries k ≡ slice_get s.entries k) → kind_at (Grown e) k ≡ Some x → IsKindBy (Below k) (lookups_of d (Grown e)) x
+    grown_entry e over' h k x z q = go (slice_get (s.entries ++ e ∷ []) k) refl q
+      where
+        alike : (j : ℕ) → j ≤ Size → (y : Kind) → IsKindBy (Below j) (lookups_of d s) y → IsKindBy (Below j) (lookups_of d (Grown e)) y
+        alike j l y w = kind_alike (Below j) (lookups_of d s) (lookups_of d (Grown e)) ordered (lookups_are_ordered d (Grown e) development over') (grown_agrees e j l) (set_closed d s development over plain j) y w
+
+        at : (y : Entry) → entry_kind y ≡ x → (slice_get s.entries k ≡ Some y) ⊎ ((k ≡ Size) × (e ≡ y)) → IsKindBy (Below k) (lookups_of d (Grown e)) x
+        at y same (inl a) = let l = is_item s.entries y k a in alike k (omega (arith, l)) x (plain.entries k x (ap (option_map entry_kind) a ∙ ap Some same))
+        at y same (inr b) = subst (λ j. IsKindBy (Below j) (lookups_of d (Grown e)) x) (sym b.0)
+            (alike Size (omega arith) x (subst (IsKindBy (Below Size) (lookups_of d s)) (ap entry_kind b.1 ∙ same) h))
+
+        go : (o : Option Entry) → slice_get (s.entries ++ e ∷ []) k ≡ o → option_map entry_kind o ≡ Some x → IsKindBy (Below k) (lookups_of d (Grown e)) x
+        go None k' r = cc
+        go (Some y) k' r = let same : entry_kind y ≡ x = cc in at y same (last_item s.entries e y k k')
+
+    grown_plain : (e : Entry) → IsSignatureOver d (Grown e) → IsKindBy (Below Size) (lookups_of d s) e.kind → IsPlain d (Grown e)
+    grown_plain e over' h = record { formals = plain.formals; imports = plain.imports; entries = λ k x q. grown_entry e over' h k x refl q }
+
+    holds_at : (text : Text) (x : Decl) (e : CheckedEntry) → declaration (lookups_of d s) (names_at d s Size) text x ≡ Ok e → IsClear e.typing → IsKindBy (Below Size) (lookups_of d s) e.kind
+    holds_at text x e f c = (subst (Holds (λ (e : CheckedEntry). IsClear e.typing → IsKindBy (Below Size) (lookups_of d s) e.kind)) f
+        (declaration_sound (Below Size) (lookups_of d s) (names_at d s Size) ordered (set_closed d s development over plain Size) names_each variables_formed text x)) c
+
+module _ (d : Development) (development : IsDevelopment d) (text : Text) (t : CheckedTheory) (plain : IsPlain d t.signature) (over : IsSignatureOver d t.signature) (x : Decl) where
+  -- the entry of a declaration that was elaborated without a condition
+  entry_plain : (e : ElaboratedDecl) → elab_decl (lookups_after d t) (names_after d t) text x ≡ Ok e → e.conditions ≡ []
+      → IsSignatureOver d (entered text x t e).signature → IsPlain d (entered text x t e).signature
+  entry_plain e h none over' =
+      let i = declared_is (lookups_after d t) (names_after d t) text x e h in
+      let clear : IsClear i.entered.typing = record { used = i.used; accepted = i.typing ∙ ap (λ cs. Accepted tt cs i.used) none } in
+      let kind = holds_at d t.signature plain development over text x i.entered i.found clear in
+      subst (λ o. IsPlain d (with_entry (declared_name text x) o t.signature)) (sym i.entry)
+      (grown_plain d t.signature plain development over (record { name = declared_name text x; kind = i.entered.kind })
+      (subst (λ o. IsSignatureOver d (with_entry (declared_name text x) o t.signature)) i.entry over') kind)
+
+  settled : (e : ElaboratedDecl) (cs : Conditions) (u : CheckedTheory) → (without_conditions (decl_place x) e cs >>= (λ y. Ok (entered text x t y))) ≡ Ok u
+      → (cs ≡ []) × (entered text x t e ≡ u)
+  settled e [] u h = (refl, cc)
+  settled e (c ∷ cs) u h = cc
+
+  given : (r : Answer ElaboratedDecl) → elab_decl (lookups_after d t) (names_after d t) text x ≡ r → (u : CheckedTheory)
+      → (r >>= (λ e. without_conditions (decl_place x) e e.conditions >>= (λ y. Ok (entered text x t y)))) ≡ Ok u → IsSignatureOver d u.signature → IsPlain d u.signature
+  given (Err f) k u h over' = cc
+  given (Ok e) k u h over' =
+      let z = settled e e.conditions u h in
+      subst (λ (w : CheckedTheory). IsPlain d w.signature) z.1 (entry_plain e k z.0 (subst (λ (w : CheckedTheory). IsSignatureOver d w.signature) (sym z.1) over'))
+
+  pub declared_plain : (u : CheckedTheory) → declared d text t x ≡ Ok u → IsSignatureOver d u.signature → IsPlain d u.signature
+  declared_plain u h over' = given (elab_decl (lookups_after d t) (names_after d t) text x) refl u h over'
+
+-- a theory of which nothing is read
+pub unread_plain : (d : Development) (name : Text) → IsPlain d (unread name).signature
+unread_plain d name = record { formals = refl; imports = refl; entries = λ k x h. cc }
+
+-- with all its declarations, where each signature on the way stands over the theories
+stays_first : (d : Development) (text : Text) (t : CheckedTheory) (xs : List Decl) → StaysOver d text t xs → IsSignatureOver d t.signature
+stays_first d text t [] h = h
+stays_first d text t (x ∷ xs) h = h.0
+
+pub all_plain : (d : Development) → IsDevelopment d → (text : Text) (t : CheckedTheory) → IsPlain d t.signature → (xs : List Decl) → StaysOver d text t xs
+    → (u : CheckedTheory) → all_declared d text t xs ≡ Ok u → IsPlain d u.signature × IsSignatureOver d u.signature
+all_plain d development text t plain [] over u h = let z : t ≡ u = cc in subst (λ (w : CheckedTheory). IsPlain d w.signature × IsSignatureOver d w.signature) z (plain, over)
+all_plain d development text t plain (x ∷ xs) over u h = go (declared d text t x) refl (λ w o p q. all_plain d development text w p xs o u q) h
+  where
+    go : (r : Answer CheckedTheory) → declared d text t x ≡ r → ((w : CheckedTheory) → StaysOver d text w xs → IsPlain d w.signature → all_declared d text w xs ≡ Ok u → IsPlain d u.signature × IsSignatureOver d u.signature)
+        → (r >>= (λ w. all_declared d text w xs)) ≡ Ok u → IsPlain d u.signature × IsSignatureOver d u.signature
+    go (Err f) k later q = cc
+    go (Ok w) k later q = later w (over.1 w k) (declared_plain d development text t plain over.0 x w k (stays_first d text w xs (over.1 w k))) q
