@@ -24,7 +24,7 @@ use Rattle.pvs_elab.specs.Laws.{Holds}
 use Rattle.pvs_elab.proofs.AnswerLaws.{holds_then, within_limits_then, outcome_then}
 use Rattle.pvs_soundness.specs.Local.{IsClosedSet, EachAssumed}
 use Rattle.pvs_soundness.specs.Mentioned.{EachLocal, EachHere, EachName, StaysIn}
-use Rattle.pvs_soundness.specs.Checked.{IsClear, IsFormedBy, IsCheckedBy, plainly, under_parameter, AreFormedBy, IsFormulaBy, IsKindBy}
+use Rattle.pvs_soundness.specs.Checked.{OwesNothing, IsFormedBy, IsCheckedBy, plainly, under_parameter, AreFormedBy, IsFormulaBy, IsKindBy}
 use Rattle.pvs_soundness.proofs.MentionedLaws.{elab_stays, variable_each, named_then}
 
 abbrev conditions_of : Outcome (Unit {0}) → Conditions
@@ -44,7 +44,7 @@ no_second [] ys h = h
 no_second (x ∷ xs) ys h = cc
 
 -- a step and the next are accepted without conditions where both are
-both_clear : (o u : Outcome (Unit {0})) → IsClear (outcome.◌>>◌ o u) → IsClear o × IsClear u
+both_clear : (o u : Outcome (Unit {0})) → OwesNothing (outcome.◌>>◌ o u) → OwesNothing o × OwesNothing u
 both_clear (Refused c) u h = absurd (subst is_accepted (sym h.accepted) tt)
 both_clear (Accepted a cs rs) (Refused c) h = absurd (subst is_accepted (sym h.accepted) tt)
 both_clear (Accepted a cs rs) (Accepted b ds ss) h = (
@@ -60,7 +60,7 @@ module _ (P : Ref → Type 0) (s : Lookups) (scope : Names) (ordered : IsOrdered
     (vars : (x : Text) (v : TypedVariable) → scope.variable_named x ≡ Ok v → IsFormedBy P s [] v.ty) where
   -- where typing owes nothing, the entry is accepted
   abbrev pub IsSoundEntry : CheckedEntry → Type 0
-  IsSoundEntry e = IsClear e.typing → IsKindBy P s e.kind
+  IsSoundEntry e = OwesNothing e.typing → IsKindBy P s e.kind
 
   at_top : EachHere P top_level
   at_top = record { locals = tt; context = tt }
@@ -68,10 +68,10 @@ module _ (P : Ref → Type 0) (s : Lookups) (scope : Names) (ordered : IsOrdered
   stays : (e : Phrase) → StaysIn P (elab s scope e)
   stays = elab_stays P s scope ordered closed each
 
-  formed_by : (g : Assumptions) (a : Tree) → EachRef P a → IsClear (well_formed s g a) → IsFormedBy P s g a
+  formed_by : (g : Assumptions) (a : Tree) → EachRef P a → OwesNothing (well_formed s g a) → IsFormedBy P s g a
   formed_by g a p h = record { each = p; used = h.used; accepted = h.accepted }
 
-  checked_by : (g : Assumptions) (t a : Tree) → EachRef P t → EachRef P a → IsClear (check s g t a) → IsCheckedBy P s g t a
+  checked_by : (g : Assumptions) (t a : Tree) → EachRef P t → EachRef P a → OwesNothing (check s g t a) → IsCheckedBy P s g t a
   checked_by g t a p q h = record { each = p; type_each = q; used = h.used; accepted = h.accepted }
 
   constant_sound : (a : Phrase) (pos : Pos) → Holds IsSoundEntry (constant s scope a pos)
@@ -128,18 +128,18 @@ module _ (P : Ref → Type 0) (s : Lookups) (scope : Names) (ordered : IsOrdered
 
   formula_sound : (c : Class) (e : Phrase) → Holds IsSoundEntry (formula_decl s scope c e)
   formula_sound c e =
-      holds_then (λ f. IsClear (check s (binders_of f.variables) f.open_tree TBool) → IsFormulaBy P s f.tree) IsSoundEntry (formula s scope e) _
-      (holds_then (AreFormedBy P s) (λ f. IsClear (check s (binders_of f.variables) f.open_tree TBool) → IsFormulaBy P s f.tree)
+      holds_then (λ f. OwesNothing (check s (binders_of f.variables) f.open_tree TBool) → IsFormulaBy P s f.tree) IsSoundEntry (formula s scope e) _
+      (holds_then (AreFormedBy P s) (λ f. OwesNothing (check s (binders_of f.variables) f.open_tree TBool) → IsFormulaBy P s f.tree)
       (free_variables scope (firsts [] (occurrences scope true [] e))) _ (variables_formed (firsts [] (occurrences scope true [] e))) (λ vs k. under (reverse vs) (formed_reversed vs k)))
       (λ f g. g)
     where
       under : (bs : List FreeVariable) → AreFormedBy P s bs
-          → Holds (λ f. IsClear (check s (binders_of f.variables) f.open_tree TBool) → IsFormulaBy P s f.tree) (formula_under s scope e bs)
+          → Holds (λ f. OwesNothing (check s (binders_of f.variables) f.open_tree TBool) → IsFormulaBy P s f.tree) (formula_under s scope e bs)
       under bs k =
           let here : EachHere P (here_under bs) = let r = each_here 0 bs k in record { locals = r.0; context = r.1 } in
-          holds_then (EachRef P) (λ (f : Formula). IsClear (check s (binders_of f.variables) f.open_tree TBool) → IsFormulaBy P s f.tree)
+          holds_then (EachRef P) (λ (f : Formula). OwesNothing (check s (binders_of f.variables) f.open_tree TBool) → IsFormulaBy P s f.tree)
           ((elab s scope e).check (here_under bs) (place e) TBool) _ ((stays e).check (here_under bs) (place e) TBool here) (λ t q.
-          holds_then (λ u. u ≡ closure bs t) (λ (f : Formula). IsClear (check s (binders_of f.variables) f.open_tree TBool) → IsFormulaBy P s f.tree)
+          holds_then (λ u. u ≡ closure bs t) (λ (f : Formula). OwesNothing (check s (binders_of f.variables) f.open_tree TBool) → IsFormulaBy P s f.tree)
           (closed_by (place e) bs t) _ (closed_is (place e) bs t) (λ u g h. record {
             variables = bs;
             open_tree = t;

@@ -20,7 +20,7 @@ use Rattle.pvs_elab.specs.Formula.{FreeVariable, binders_of, closure}
 use Rattle.pvs_soundness.specs.Scoped.{IsScoped}
 use Rattle.pvs_soundness.specs.Local.{IsClosedSet, EachAssumed}
 use Rattle.pvs_soundness.specs.Laws.{WhereAccepted}
-use Rattle.pvs_soundness.specs.Within.{within}
+use Rattle.pvs_soundness.specs.Within.{lookups_within}
 use Rattle.pvs_soundness.specs.Fits.{nowhere, FitsKind, IsInsideKind}
 use Rattle.pvs_soundness.specs.Checked.{IsFormedBy, IsCheckedBy, IsDefinedBy, plainly, under_parameter, AreFormedBy, IsFormulaBy, IsKindBy}
 use Rattle.pvs_soundness.proofs.AcceptedLaws.{typing_kept}
@@ -37,32 +37,32 @@ pub formed_scoped : (P : Ref → Type 0) (s : Lookups) (a : Tree) → IsFormedBy
 formed_scoped P s a h = was_accepted (IsScoped 0 a) (well_formed s [] a) tt h.used h.accepted ((typing_kept s InScope InScope scope_kept a).well_formed [])
 
 module _ (p : Ref → Bool) (s : Lookups) (ordered : IsOrdered s) (closed : IsClosedSet (λ r. p r ≡ true) s)
-    (m : Model) (fits : IsModelOf m (within p s)) (valued : (r : Ref) → IsValued m (within p s) r) where
+    (m : Model) (fits : IsModelOf m (lookups_within p s)) (valued : (r : Ref) → IsValued m (lookups_within p s) r) where
   abbrev P : Ref → Type 0
   P r = p r ≡ true
 
-  all_valued : (rs : List Ref) → AllHold (IsValued m (within p s)) rs
+  all_valued : (rs : List Ref) → AllHold (IsValued m (lookups_within p s)) rs
   all_valued [] = tt
   all_valued (r ∷ rs) = (valued r, all_valued rs)
 
   provided : {A : Type 0} (Q : A → Type 0) (o : Outcome A) (a : A) (us : List Ref) → o ≡ Accepted a [] us
-      → Provides (IsTrueCondition m (Satisfies m)) (IsValued m (within p s)) Q o → Q a
-  provided Q o a us e h = (subst (Provides (IsTrueCondition m (Satisfies m)) (IsValued m (within p s)) Q) e h) tt (all_valued us)
+      → Provides (IsTrueCondition m (Satisfies m)) (IsValued m (lookups_within p s)) Q o → Q a
+  provided Q o a us e h = (subst (Provides (IsTrueCondition m (Satisfies m)) (IsValued m (lookups_within p s)) Q) e h) tt (all_valued us)
 
   -- what typing accepts by these look-ups, it accepts by those within the set
   pub formed_defined : (g : Assumptions) (a : Tree) → EachAssumed P g → IsFormedBy P s g a → (e : Env) → Satisfies m g e → inside m a e ≡ true
   formed_defined g a q h =
       let sorted = (was_accepted _ (well_formed s g a) tt h.used h.accepted (accepted_sorted s g a a).2).1 in
-      let same = (answered_alike P s (within p s) ordered (within_ordered p s ordered) (within_agrees p s) closed g q a a sorted h.each h.each).well_formed in
-      provided (λ _. IsDefined m (Satisfies m) g a) (well_formed (within p s) g a) tt h.used (sym same ∙ h.accepted)
-      ((typing_sound m (within p s) fits (Satisfies m) (satisfies_is m) a).well_formed g)
+      let same = (answered_alike P s (lookups_within p s) ordered (within_ordered p s ordered) (within_agrees p s) closed g q a a sorted h.each h.each).well_formed in
+      provided (λ _. IsDefined m (Satisfies m) g a) (well_formed (lookups_within p s) g a) tt h.used (sym same ∙ h.accepted)
+      ((typing_sound m (lookups_within p s) fits (Satisfies m) (satisfies_is m) a).well_formed g)
 
   pub checked_typed : (g : Assumptions) (t a : Tree) → EachAssumed P g → IsCheckedBy P s g t a → (e : Env) → Satisfies m g e → IsOfType m t a e
   checked_typed g t a q h =
       let sorted = (was_accepted _ (check s g t a) tt h.used h.accepted (accepted_sorted s g t a).1).1 in
-      let same = (answered_alike P s (within p s) ordered (within_ordered p s ordered) (within_agrees p s) closed g q t a sorted h.each h.type_each).check in
-      (provided (λ _. HasType m (Satisfies m) g t a) (check (within p s) g t a) tt h.used (sym same ∙ h.accepted)
-      ((typing_sound m (within p s) fits (Satisfies m) (satisfies_is m) t).check g a)).in_each
+      let same = (answered_alike P s (lookups_within p s) ordered (within_ordered p s ordered) (within_agrees p s) closed g q t a sorted h.each h.type_each).check in
+      (provided (λ _. HasType m (Satisfies m) g t a) (check (lookups_within p s) g t a) tt h.used (sym same ∙ h.accepted)
+      ((typing_sound m (lookups_within p s) fits (Satisfies m) (satisfies_is m) t).check g a)).in_each
 
   -- under no binder each environment counts, and means the same
   closed_inside : (a : Tree) → IsFormedBy P s [] a → (e : Env) → inside m a e ≡ true

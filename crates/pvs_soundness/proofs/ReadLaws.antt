@@ -34,9 +34,9 @@ use Rattle.pvs_elab.specs.Laws.{Holds}
 use Rattle.pvs_elab.proofs.DeclarationLaws.{declared_is}
 use Rattle.pvs_soundness.specs.Local.{AgreesWith, IsClosedSet, EachAssumed}
 use Rattle.pvs_soundness.specs.Mentioned.{EachName}
-use Rattle.pvs_soundness.specs.Checked.{IsClear, IsFormedBy, IsCheckedBy, IsDefinedBy, plainly, under_parameter, AreFormedBy, IsKindBy}
-use Rattle.pvs_soundness.specs.Read.{IsPlain}
-use Rattle.pvs_soundness.specs.Theory.{CheckedTheory, declared_name, with_entry, lookups_after, names_after, without_conditions, entered, declared, all_declared, unread, StaysOver}
+use Rattle.pvs_soundness.specs.Checked.{OwesNothing, IsFormedBy, IsCheckedBy, IsDefinedBy, plainly, under_parameter, AreFormedBy, IsKindBy}
+use Rattle.pvs_soundness.specs.Read.{IsAcceptedSignature}
+use Rattle.pvs_soundness.specs.Theory.{CheckedTheory, declared_name, with_entry, lookups_after, names_after, without_conditions, with_elaborated, with_declaration, with_declarations, empty_theory, StaysOver}
 use Rattle.pvs_soundness.proofs.WellSortedLaws.{accepted_sorted}
 use Rattle.pvs_soundness.proofs.LocalTyping.{answered_alike}
 use Rattle.pvs_soundness.proofs.DeclaredLaws.{declaration_sound}
@@ -112,7 +112,7 @@ no_formula : (kind : NameKind) → (kind ≡ FormulaName → ⊥) → {P : Type 
 no_formula kind n (inl p) = p
 no_formula kind n (inr e) = absurd (n e)
 
-module _ (d : Development) (s : Signature) (plain : IsPlain d s) where
+module _ (d : Development) (s : Signature) (plain : IsAcceptedSignature d s) where
   abbrev Size : ℕ
   Size = length s.entries
 
@@ -236,42 +236,42 @@ module _ (d : Development) (s : Signature) (plain : IsPlain d s) where
         go None k' r = cc
         go (Some y) k' r = let same : entry_kind y ≡ x = cc in at y same (last_item s.entries e y k k')
 
-    grown_plain : (e : Entry) → IsSignatureOver d (Grown e) → IsKindBy (Below Size) (lookups_of d s) e.kind → IsPlain d (Grown e)
+    grown_plain : (e : Entry) → IsSignatureOver d (Grown e) → IsKindBy (Below Size) (lookups_of d s) e.kind → IsAcceptedSignature d (Grown e)
     grown_plain e over' h = record { formals = plain.formals; imports = plain.imports; entries = λ k x q. grown_entry e over' h k x refl q }
 
-    holds_at : (text : Text) (x : Decl) (e : CheckedEntry) → declaration (lookups_of d s) (names_at d s Size) text x ≡ Ok e → IsClear e.typing → IsKindBy (Below Size) (lookups_of d s) e.kind
-    holds_at text x e f c = (subst (Holds (λ (e : CheckedEntry). IsClear e.typing → IsKindBy (Below Size) (lookups_of d s) e.kind)) f
+    holds_at : (text : Text) (x : Decl) (e : CheckedEntry) → declaration (lookups_of d s) (names_at d s Size) text x ≡ Ok e → OwesNothing e.typing → IsKindBy (Below Size) (lookups_of d s) e.kind
+    holds_at text x e f c = (subst (Holds (λ (e : CheckedEntry). OwesNothing e.typing → IsKindBy (Below Size) (lookups_of d s) e.kind)) f
         (declaration_sound (Below Size) (lookups_of d s) (names_at d s Size) ordered (set_closed d s development over plain Size) names_each variables_formed text x)) c
 
-module _ (d : Development) (development : IsDevelopment d) (text : Text) (t : CheckedTheory) (plain : IsPlain d t.signature) (over : IsSignatureOver d t.signature) (x : Decl) where
+module _ (d : Development) (development : IsDevelopment d) (text : Text) (t : CheckedTheory) (plain : IsAcceptedSignature d t.signature) (over : IsSignatureOver d t.signature) (x : Decl) where
   -- the entry of a declaration that was elaborated without a condition
   entry_plain : (e : ElaboratedDecl) → elab_decl (lookups_after d t) (names_after d t) text x ≡ Ok e → e.conditions ≡ []
-      → IsSignatureOver d (entered text x t e).signature → IsPlain d (entered text x t e).signature
+      → IsSignatureOver d (with_elaborated text x t e).signature → IsAcceptedSignature d (with_elaborated text x t e).signature
   entry_plain e h none over' =
       let i = declared_is (lookups_after d t) (names_after d t) text x e h in
-      let clear : IsClear i.entered.typing = record { used = i.used; accepted = i.typing ∙ ap (λ cs. Accepted tt cs i.used) none } in
+      let clear : OwesNothing i.entered.typing = record { used = i.used; accepted = i.typing ∙ ap (λ cs. Accepted tt cs i.used) none } in
       let kind = holds_at d t.signature plain development over text x i.entered i.found clear in
-      subst (λ o. IsPlain d (with_entry (declared_name text x) o t.signature)) (sym i.entry)
+      subst (λ o. IsAcceptedSignature d (with_entry (declared_name text x) o t.signature)) (sym i.entry)
       (grown_plain d t.signature plain development over (record { name = declared_name text x; kind = i.entered.kind })
       (subst (λ o. IsSignatureOver d (with_entry (declared_name text x) o t.signature)) i.entry over') kind)
 
-  settled : (e : ElaboratedDecl) (cs : Conditions) (u : CheckedTheory) → (without_conditions (decl_place x) e cs >>= (λ y. Ok (entered text x t y))) ≡ Ok u
-      → (cs ≡ []) × (entered text x t e ≡ u)
+  settled : (e : ElaboratedDecl) (cs : Conditions) (u : CheckedTheory) → (without_conditions (decl_place x) e cs >>= (λ y. Ok (with_elaborated text x t y))) ≡ Ok u
+      → (cs ≡ []) × (with_elaborated text x t e ≡ u)
   settled e [] u h = (refl, cc)
   settled e (c ∷ cs) u h = cc
 
   given : (r : Answer ElaboratedDecl) → elab_decl (lookups_after d t) (names_after d t) text x ≡ r → (u : CheckedTheory)
-      → (r >>= (λ e. without_conditions (decl_place x) e e.conditions >>= (λ y. Ok (entered text x t y)))) ≡ Ok u → IsSignatureOver d u.signature → IsPlain d u.signature
+      → (r >>= (λ e. without_conditions (decl_place x) e e.conditions >>= (λ y. Ok (with_elaborated text x t y)))) ≡ Ok u → IsSignatureOver d u.signature → IsAcceptedSignature d u.signature
   given (Err f) k u h over' = cc
   given (Ok e) k u h over' =
       let z = settled e e.conditions u h in
-      subst (λ (w : CheckedTheory). IsPlain d w.signature) z.1 (entry_plain e k z.0 (subst (λ (w : CheckedTheory). IsSignatureOver d w.signature) (sym z.1) over'))
+      subst (λ (w : CheckedTheory). IsAcceptedSignature d w.signature) z.1 (entry_plain e k z.0 (subst (λ (w : CheckedTheory). IsSignatureOver d w.signature) (sym z.1) over'))
 
-  pub declared_plain : (u : CheckedTheory) → declared d text t x ≡ Ok u → IsSignatureOver d u.signature → IsPlain d u.signature
+  pub declared_plain : (u : CheckedTheory) → with_declaration d text t x ≡ Ok u → IsSignatureOver d u.signature → IsAcceptedSignature d u.signature
   declared_plain u h over' = given (elab_decl (lookups_after d t) (names_after d t) text x) refl u h over'
 
 -- a theory of which nothing is read
-pub unread_plain : (d : Development) (name : Text) → IsPlain d (unread name).signature
+pub unread_plain : (d : Development) (name : Text) → IsAcceptedSignature d (empty_theory name).signature
 unread_plain d name = record { formals = refl; imports = refl; entries = λ k x h. cc }
 
 -- with all its declarations, where each signature on the way stands over the theories
@@ -279,12 +279,12 @@ stays_first : (d : Development) (text : Text) (t : CheckedTheory) (xs : List Dec
 stays_first d text t [] h = h
 stays_first d text t (x ∷ xs) h = h.0
 
-pub all_plain : (d : Development) → IsDevelopment d → (text : Text) (t : CheckedTheory) → IsPlain d t.signature → (xs : List Decl) → StaysOver d text t xs
-    → (u : CheckedTheory) → all_declared d text t xs ≡ Ok u → IsPlain d u.signature × IsSignatureOver d u.signature
-all_plain d development text t plain [] over u h = let z : t ≡ u = cc in subst (λ (w : CheckedTheory). IsPlain d w.signature × IsSignatureOver d w.signature) z (plain, over)
-all_plain d development text t plain (x ∷ xs) over u h = go (declared d text t x) refl (λ w o p q. all_plain d development text w p xs o u q) h
+pub all_plain : (d : Development) → IsDevelopment d → (text : Text) (t : CheckedTheory) → IsAcceptedSignature d t.signature → (xs : List Decl) → StaysOver d text t xs
+    → (u : CheckedTheory) → with_declarations d text t xs ≡ Ok u → IsAcceptedSignature d u.signature × IsSignatureOver d u.signature
+all_plain d development text t plain [] over u h = let z : t ≡ u = cc in subst (λ (w : CheckedTheory). IsAcceptedSignature d w.signature × IsSignatureOver d w.signature) z (plain, over)
+all_plain d development text t plain (x ∷ xs) over u h = go (with_declaration d text t x) refl (λ w o p q. all_plain d development text w p xs o u q) h
   where
-    go : (r : Answer CheckedTheory) → declared d text t x ≡ r → ((w : CheckedTheory) → StaysOver d text w xs → IsPlain d w.signature → all_declared d text w xs ≡ Ok u → IsPlain d u.signature × IsSignatureOver d u.signature)
-        → (r >>= (λ w. all_declared d text w xs)) ≡ Ok u → IsPlain d u.signature × IsSignatureOver d u.signature
+    go : (r : Answer CheckedTheory) → with_declaration d text t x ≡ r → ((w : CheckedTheory) → StaysOver d text w xs → IsAcceptedSignature d w.signature → with_declarations d text w xs ≡ Ok u → IsAcceptedSignature d u.signature × IsSignatureOver d u.signature)
+        → (r >>= (λ w. with_declarations d text w xs)) ≡ Ok u → IsAcceptedSignature d u.signature × IsSignatureOver d u.signature
     go (Err f) k later q = cc
     go (Ok w) k later q = later w (over.1 w k) (declared_plain d development text t plain over.0 x w k (stays_first d text w xs (over.1 w k))) q

@@ -14,10 +14,10 @@ use Rattle.pvs_sem.specs.Value.{Value, IsMember, IsAscending}
 use Rattle.pvs_sem.specs.Meaning.{Model, Env, mean}
 use Rattle.pvs_types.specs.Soundness.{IsModelOf, IsValued}
 use Rattle.pvs_soundness.specs.Local.{IsClosedSet}
-use Rattle.pvs_soundness.specs.Within.{is_own_below, within}
+use Rattle.pvs_soundness.specs.Within.{is_own_below, lookups_within}
 use Rattle.pvs_soundness.specs.Fits.{nowhere, IsInsideKind}
 use Rattle.pvs_soundness.specs.Checked.{IsFormedBy, IsKindBy}
-use Rattle.pvs_soundness.specs.Read.{IsPlain, FitsBefore}
+use Rattle.pvs_soundness.specs.Read.{IsAcceptedSignature, FitsBefore}
 use Rattle.pvs_soundness.proofs.ClosedLaws.{mean_closed}
 use Rattle.pvs_soundness.proofs.WithinLaws.{found_within}
 use Rattle.pvs_soundness.proofs.KindSound.{kind_inside, constant_valued, formed_scoped}
@@ -68,7 +68,7 @@ type_formed : (P : Ref → Type 0) (s : Lookups) (a : Tree) (body : Option Tree)
 type_formed P s a None h = h
 type_formed P s a (Some t) h = h.0
 
-module _ (d : Development) (s : Signature) (development : IsDevelopment d) (over : IsSignatureOver d s) (plain : IsPlain d s) where
+module _ (d : Development) (s : Signature) (development : IsDevelopment d) (over : IsSignatureOver d s) (plain : IsAcceptedSignature d s) where
   ordered : IsOrdered (lookups_of d s)
   ordered = lookups_are_ordered d s development over
 
@@ -103,7 +103,7 @@ module _ (d : Development) (s : Signature) (development : IsDevelopment d) (over
 
   module _ (m : Model) (sets : (r : Ref) → IsAscending (m.meaning r).set) where
     abbrev Cut : ℕ → Lookups
-    Cut k = within (is_own_below k) (lookups_of d s)
+    Cut k = lookups_within (is_own_below k) (lookups_of d s)
 
     type_has : (j k : ℕ) (x : Option Kind) → FitsBefore m s k → j < k → kind_at s j ≡ x → is_type_kind x ≡ true → m.has (Own j) ≡ true
     type_has j k (Some (TypeSig b None)) f l e h = (f j (TypeSig b None) l e).0

@@ -11,7 +11,7 @@ use Rattle.pvs_types.specs.Typing.{check, well_formed}
 use Rattle.pvs_elab.specs.Formula.{FreeVariable, binders_of, closure}
 
 -- accepted without a condition
-pub record IsClear (o : Outcome (Unit {0})) : Type 0 where
+pub record OwesNothing (o : Outcome (Unit {0})) : Type 0 where
   pub used : List Ref
   pub accepted : o ≡ Accepted tt [] used
 

@@ -19,10 +19,10 @@ use Rattle.pvs_elab.specs.Laws.{Holds}
 use Rattle.pvs_soundness.specs.WellSorted.{IsWellSorted}
 use Rattle.pvs_soundness.specs.Local.{AgreesWith, IsClosedSet, EachAssumed, IsAnsweredAlike}
 use Rattle.pvs_soundness.specs.Mentioned.{EachName, StaysIn}
-use Rattle.pvs_soundness.specs.Checked.{IsClear, IsFormedBy, IsKindBy}
+use Rattle.pvs_soundness.specs.Checked.{OwesNothing, IsFormedBy, IsKindBy}
 use Rattle.pvs_soundness.specs.Fits.{IsInsideKind}
-use Rattle.pvs_soundness.specs.Read.{IsPlain, FitsBefore}
-use Rattle.pvs_soundness.specs.Theory.{CheckedTheory, all_declared, unread, StaysOver}
+use Rattle.pvs_soundness.specs.Read.{IsAcceptedSignature, FitsBefore}
+use Rattle.pvs_soundness.specs.Theory.{CheckedTheory, with_declarations, empty_theory, StaysOver}
 
 -- where typing accepts, this holds
 abbrev pub WhereAccepted : {A : Type 0} → Type 0 → Outcome A → Type 0
@@ -60,15 +60,15 @@ ElaborationStaysIn = (p : Ref → Bool) (s : Lookups) (names : Names) → IsOrde
 abbrev pub DeclarationsAreAccepted : Type 0
 DeclarationsAreAccepted = (p : Ref → Bool) (s : Lookups) (names : Names) → IsOrdered s → IsClosedSet (InSet p) s → EachName (InSet p) names
     → ((x : Text) (v : TypedVariable) → names.variable_named x ≡ Ok v → IsFormedBy (InSet p) s [] v.ty)
-    → (text : Text) (d : Decl) → Holds (λ (e : CheckedEntry). IsClear e.typing → IsKindBy (InSet p) s e.kind) (declaration s names text d)
+    → (text : Text) (d : Decl) → Holds (λ (e : CheckedEntry). OwesNothing e.typing → IsKindBy (InSet p) s e.kind) (declaration s names text d)
 
 -- A theory that is read from its declarations, where none owes a condition and each signature on the way stands over the
 -- theories, is one whose entries typing accepts over those before them.
 abbrev pub TheoriesAreAccepted : Type 0
-TheoriesAreAccepted = (d : Development) → IsDevelopment d → (text name : Text) (xs : List Decl) → StaysOver d text (unread name) xs
-    → (t : CheckedTheory) → all_declared d text (unread name) xs ≡ Ok t → IsPlain d t.signature
+TheoriesAreAccepted = (d : Development) → IsDevelopment d → (text name : Text) (xs : List Decl) → StaysOver d text (empty_theory name) xs
+    → (t : CheckedTheory) → with_declarations d text (empty_theory name) xs ≡ Ok t → IsAcceptedSignature d t.signature
 
 -- In a model that fits the entries before it, each entry is inside.
 abbrev pub EntriesAreInside : Type 0
-EntriesAreInside = (d : Development) (s : Signature) → IsDevelopment d → IsSignatureOver d s → IsPlain d s
+EntriesAreInside = (d : Development) (s : Signature) → IsDevelopment d → IsSignatureOver d s → IsAcceptedSignature d s
     → (m : FiniteMap) → AreSets m → (i : ℕ) (x : Kind) → kind_at s i ≡ Some x → FitsBefore (model_of m) s i → IsInsideKind (model_of m) x

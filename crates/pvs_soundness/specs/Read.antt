@@ -10,7 +10,7 @@ use Rattle.pvs_soundness.specs.Within.{is_own_below}
 use Rattle.pvs_soundness.specs.Checked.{IsKindBy}
 use Rattle.pvs_soundness.specs.Fits.{FitsKind}
 
-pub record IsPlain (d : Development) (s : Signature) : Type 0 where
+pub record IsAcceptedSignature (d : Development) (s : Signature) : Type 0 where
   pub formals : s.formals ≡ []
   pub imports : s.imports ≡ []
   pub entries : (k : ℕ) (x : Kind) → kind_at s k ≡ Some x → IsKindBy (λ r. is_own_below k r ≡ true) (lookups_of d s) x

@@ -47,24 +47,24 @@ abbrev pub without_conditions : Pos → ElaboratedDecl → Conditions → Answer
 without_conditions at x [] = pure x
 without_conditions at x (c ∷ cs) = fault at OutOfProfile
 
-abbrev pub entered : Text → Decl → CheckedTheory → ElaboratedDecl → CheckedTheory
-entered text d t x = record { signature = with_entry (declared_name text d) x.entry t.signature; uses = t.uses ++ x.uses ∷ [] }
+abbrev pub with_elaborated : Text → Decl → CheckedTheory → ElaboratedDecl → CheckedTheory
+with_elaborated text d t x = record { signature = with_entry (declared_name text d) x.entry t.signature; uses = t.uses ++ x.uses ∷ [] }
 
 -- the theory with one more declaration
-abbrev pub declared : Development → Text → CheckedTheory → Decl → Answer CheckedTheory
-declared d text t x =
-    elab_decl (lookups_after d t) (names_after d t) text x >>= (λ e. without_conditions (decl_place x) e e.conditions >>= (λ e. pure (entered text x t e)))
+abbrev pub with_declaration : Development → Text → CheckedTheory → Decl → Answer CheckedTheory
+with_declaration d text t x =
+    elab_decl (lookups_after d t) (names_after d t) text x >>= (λ e. without_conditions (decl_place x) e e.conditions >>= (λ e. pure (with_elaborated text x t e)))
 
 -- with these declarations, or the first fault among them
-abbrev pub all_declared : Development → Text → CheckedTheory → List Decl → Answer CheckedTheory
-all_declared d text t [] = pure t
-all_declared d text t (x ∷ xs) = declared d text t x >>= (λ u. all_declared d text u xs)
+abbrev pub with_declarations : Development → Text → CheckedTheory → List Decl → Answer CheckedTheory
+with_declarations d text t [] = pure t
+with_declarations d text t (x ∷ xs) = with_declaration d text t x >>= (λ u. with_declarations d text u xs)
 
 -- a theory of which nothing is read
-abbrev pub unread : Text → CheckedTheory
-unread name = record { signature = record { name = name; formals = []; entries = []; imports = [] }; uses = [] }
+abbrev pub empty_theory : Text → CheckedTheory
+empty_theory name = record { signature = record { name = name; formals = []; entries = []; imports = [] }; uses = [] }
 
 -- each signature on the way stands over the theories
 abbrev pub StaysOver : Development → Text → CheckedTheory → List Decl → Type 0
 StaysOver d text t [] = IsSignatureOver d t.signature
-StaysOver d text t (x ∷ xs) = IsSignatureOver d t.signature × ((u : CheckedTheory) → declared d text t x ≡ Ok u → StaysOver d text u xs)
+StaysOver d text t (x ∷ xs) = IsSignatureOver d t.signature × ((u : CheckedTheory) → with_declaration d text t x ≡ Ok u → StaysOver d text u xs)

@@ -10,8 +10,8 @@ is_own_below n (Formal k) = false
 is_own_below n (Inst th k xs) = false
 
 -- nothing is found for a reference that is not in the set
-abbrev pub within : (Ref → Bool) → Lookups → Lookups
-within p s = record {
+abbrev pub lookups_within : (Ref → Bool) → Lookups → Lookups
+lookups_within p s = record {
   type_of = λ r. if p r then s.type_of r else None;
   body_of = λ r. if p r then s.body_of r else None;
   is_type = λ r. p r && s.is_type r;
