@@ -20,6 +20,3 @@ pub use layers::layer_of;
 pub use part::{Part, Place};
 pub use places::{place_of, resolve, start_of};
 pub use words::projection_number;
-
-#[cfg(test)]
-mod tests;
