@@ -1,0 +1,10 @@
+pub mod KnownLaws
+pub mod MachineLaws
+pub mod StepLaws
+pub mod ChoiceLaws
+pub mod JoinLaws
+pub mod AskLaws
+pub mod NameLaws
+pub mod ApplyLaws
+pub mod BinderLaws
+pub mod EqualLaws

@@ -1,0 +1,19 @@
+//! Elaboration over numbered trees: the calls that compute what `pvs_elab` defines.
+#![tactic(auto)]
+
+mod apply;
+mod binder;
+mod choice;
+mod equal;
+mod fault;
+mod frame;
+mod here;
+mod machine;
+mod names;
+mod scope;
+mod value;
+
+pub use fault::ElabFault;
+pub use here::{Here, Local, Typed};
+pub use scope::Scope;
+pub use value::{Mode, Value};

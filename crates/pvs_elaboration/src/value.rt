@@ -1,0 +1,28 @@
+//! What is asked of a part of a text, and what is found.
+
+use crate::here::Typed;
+use pvs_terms::Id;
+
+/// What is asked of a part.
+#[derive(Clone, Copy)]
+pub enum Mode {
+    /// The term, with its type.
+    Infer,
+    /// The term, as one of this type. A mismatch has the place of the part.
+    Check(Id),
+    /// The term, as one of this type. A mismatch has this place.
+    CheckAt(usize, Id),
+    /// The type.
+    Formed,
+    /// Whether the part is the predicate of a universal formula. It serves for the fault alone.
+    Predicate,
+}
+
+/// What is found.
+#[derive(Clone, Copy)]
+pub enum Value {
+    Typed(Typed),
+    Term(Id),
+    Formed(Id),
+    Done,
+}
