@@ -19,7 +19,7 @@ use Rattle.pvs_elaboration.specs.declared.value.Mode.TheVariants as mode
 use Rattle.pvs_elaboration.specs.declared.value.Value.TheVariants as value
 use Rattle.pvs_elaboration.specs.declared.choice.Branches.{Branches}
 use Rattle.pvs_elaboration.specs.declared.choice.ChoiceRow.TheVariants.{First, CheckFirst}
-use Rattle.pvs_elaboration.specs.declared.choice.NotRow.TheVariants as not
+use Rattle.pvs_elaboration.specs.declared.choice.NotRow.TheVariants as not_form
 use Rattle.pvs_elaboration.specs.declared.frame.Frame.{Frame}
 use Rattle.pvs_elaboration.specs.declared.frame.Frame.TheVariants as frame
 use Rattle.pvs_elaboration.specs.declared.frame.Control.TheVariants as control
@@ -87,7 +87,7 @@ truth_checked {k} text h x f g i =
     ap (λ (u : Tree). ((elab k.lookups k.names (phrase_at text x)).check (site_in k text h).here (elab k.lookups k.names (phrase_at text x)).place u >>= f) >>= g) (sym i.is_truth) ∙ then_term _ f g
 
 pub not_follows : {k : Known} (text : Sources) (h : Here) (x : ℕ) (p : ℕ) → IsHere k h
-    → Follows k k text h (asked_at (site_in k text h) k.stored text mode.Infer (phrase.Not (phrase_at text x) (place_in text p))) (asked_then x (mode.Check h.truth) (frame.Not not.Tree p p))
+    → Follows k k text h (asked_at (site_in k text h) k.stored text mode.Infer (phrase.Not (phrase_at text x) (place_in text p))) (asked_then x (mode.Check h.truth) (frame.Not not_form.Tree p p))
 unfolding site_in
 not_follows text h x p i = follows_at_once text h _ _ (record { entrance = tt; control = (i.truth, tt); frame = tt }) (truth_checked text h x _ _ i)
 
@@ -114,7 +114,7 @@ pub group_checked : {k : Known} (text : Sources) (h : Here) (x : ℕ) (pos : Pos
 group_checked text h x pos at u n = follows_at_once text h _ _ (record { entrance = tt; control = (n, tt); frame = tt }) (sym (nothing_after _))
 
 pub not_checked : {k : Known} (text : Sources) (h : Here) (x : ℕ) (p at : ℕ) (u : ℕ) → IsHere k h → IsTypeOf k u
-    → Follows k k text h (asked_at (site_in k text h) k.stored text (mode.CheckAt at u) (phrase.Not (phrase_at text x) (place_in text p))) (asked_then x (mode.Check h.truth) (frame.Not (not.False u) p at))
+    → Follows k k text h (asked_at (site_in k text h) k.stored text (mode.CheckAt at u) (phrase.Not (phrase_at text x) (place_in text p))) (asked_then x (mode.Check h.truth) (frame.Not (not_form.False u) p at))
 unfolding site_in
 not_checked text h x p at u i n = follows_at_once text h _ _ (record { entrance = tt; control = (i.truth, tt); frame = (n, tt) }) (truth_checked text h x _ _ i)
 

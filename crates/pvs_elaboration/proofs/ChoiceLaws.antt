@@ -19,7 +19,7 @@ use Rattle.pvs_elaboration.specs.declared.value.Mode.TheVariants as mode
 use Rattle.pvs_elaboration.specs.declared.value.Value.TheVariants as value
 use Rattle.pvs_elaboration.specs.declared.choice.Branches.{Branches}
 use Rattle.pvs_elaboration.specs.declared.choice.ChoiceRow.TheVariants.{First, Negation, Second, Join, CheckFirst, CheckNegation, CheckSecond, CheckLast}
-use Rattle.pvs_elaboration.specs.declared.choice.NotRow.TheVariants as not
+use Rattle.pvs_elaboration.specs.declared.choice.NotRow.TheVariants as not_form
 use Rattle.pvs_elaboration.specs.declared.frame.Frame.{Frame}
 use Rattle.pvs_elaboration.specs.declared.frame.Frame.TheVariants as frame
 use Rattle.pvs_elaboration.specs.declared.frame.Control.TheVariants as control
@@ -94,13 +94,13 @@ check_negation_row k c text h b u p a res i t =
 
 pub not_row : (k c : Known) (text : Sources) (h : Here) (pos at : ℕ) (p : ℕ) (res : Result Next ElabFault) → IsHere k h
     → Steps k c text h (made_answer (site_in k text h) k.stored text pos (node_tree k.stored (node.If p h.no h.yes)) (frame.WithType h.truth)) res
-    → Steps k c text h (not_after (site_in k text h) k.stored text not.Tree pos at (Term (tree_at k.stored p))) res
+    → Steps k c text h (not_after (site_in k text h) k.stored text not_form.Tree pos at (Term (tree_at k.stored p))) res
 not_row k c text h pos at p res i t =
     steps_same k c text h _ _ res (negation_made text h pos p (λ (n : Tree). Ok (record { tree = n; ty = TBool })) (λ (x : definition.TypedTree). Ok (Typed x)) i ∙ ap (λ (u : Tree). within_limits_at (place_in text pos) (node_tree k.stored (node.If p h.no h.yes)) >>= (λ t. Ok (Typed (record { tree = t; ty = u })))) (sym i.is_truth)) t
 
 pub not_negation_row : (k c : Known) (text : Sources) (h : Here) (pos at : ℕ) (u p f : ℕ) (res : Result Next ElabFault) → IsHere k h
-    → Steps k c text h (made_answer (site_in k text h) k.stored text pos (node_tree k.stored (node.If p h.no h.yes)) (frame.Not (not.True u) pos at)) res
-    → Steps k c text h (not_after (site_in k text h) k.stored text (not.Negation u p) pos at (Term (tree_at k.stored f))) res
+    → Steps k c text h (made_answer (site_in k text h) k.stored text pos (node_tree k.stored (node.If p h.no h.yes)) (frame.Not (not_form.True u) pos at)) res
+    → Steps k c text h (not_after (site_in k text h) k.stored text (not_form.Negation u p) pos at (Term (tree_at k.stored f))) res
 not_negation_row k c text h pos at u p f res i t =
     steps_same k c text h _ _ res (negation_made text h pos p (not_true (site_in k text h) (place_in text at) (tree_at k.stored u)) (λ (x : Tree). Ok (Term x)) i) t
 
@@ -119,20 +119,20 @@ coerced_under k h text at v w x y u p q e d =
 abbrev pub coerces_under : ℕ → ℕ → ℕ → ℕ → ℕ → Frame → Next
 coerces_under p t a at u f = record { entrance = entrance.Hypothesis p; control = control.Coerce (record { tree = t; ty = a }) at at u; frame = f }
 
-pub false_follows : {k : Known} (text : Sources) (h : Here) (pos at : ℕ) (u p : ℕ) → IsHere k h → IsTermOf k p → AreKnownNumbers k (not_numbers (not.False u))
-    → Follows k k text h (not_after (site_in k text h) k.stored text (not.False u) pos at (Term (tree_at k.stored p))) (coerces_under p h.no h.truth at u (frame.Not (not.Negation u p) pos at))
+pub false_follows : {k : Known} (text : Sources) (h : Here) (pos at : ℕ) (u p : ℕ) → IsHere k h → IsTermOf k p → AreKnownNumbers k (not_numbers (not_form.False u))
+    → Follows k k text h (not_after (site_in k text h) k.stored text (not_form.False u) pos at (Term (tree_at k.stored p))) (coerces_under p h.no h.truth at u (frame.Not (not_form.Negation u p) pos at))
 unfolding site_in
 false_follows {k} text h pos at u p i n r =
     follows_at_once text h _ _ (record { entrance = (n, tt); control = (i.no, (i.truth, r)); frame = (r.0, (n, tt)) })
     (coerced_under k h text (place_in text at) h.no h.truth False TBool (tree_at k.stored u) (tree_at k.stored p) (not_tree (site_in k text h) (place_in text pos) (place_in text at) (tree_at k.stored u) (tree_at k.stored p)) i.is_no i.is_truth)
 
-pub true_follows : {k : Known} (text : Sources) (h : Here) (pos at : ℕ) (u n : ℕ) → IsHere k h → IsTermOf k n → AreKnownNumbers k (not_numbers (not.True u))
-    → Follows k k text h (not_after (site_in k text h) k.stored text (not.True u) pos at (Term (tree_at k.stored n))) (coerces_under n h.yes h.truth at u (frame.Not (not.Last n) pos at))
+pub true_follows : {k : Known} (text : Sources) (h : Here) (pos at : ℕ) (u n : ℕ) → IsHere k h → IsTermOf k n → AreKnownNumbers k (not_numbers (not_form.True u))
+    → Follows k k text h (not_after (site_in k text h) k.stored text (not_form.True u) pos at (Term (tree_at k.stored n))) (coerces_under n h.yes h.truth at u (frame.Not (not_form.Last n) pos at))
 unfolding site_in
 true_follows {k} text h pos at u n i m r =
     follows_at_once text h _ _ (record { entrance = (m, tt); control = (i.yes, (i.truth, r)); frame = (m, tt) })
     (coerced_under k h text (place_in text at) h.yes h.truth True TBool (tree_at k.stored u) (tree_at k.stored n) (Ok (tree_at k.stored n)) i.is_yes i.is_truth)
 
-pub last_follows : {k : Known} (text : Sources) (h : Here) (pos at : ℕ) (n p : ℕ) → AreKnownNumbers k (not_numbers (not.Last n))
-    → Follows k k text h (not_after (site_in k text h) k.stored text (not.Last n) pos at (Term (tree_at k.stored p))) (given (value.Term n) frame.Same)
+pub last_follows : {k : Known} (text : Sources) (h : Here) (pos at : ℕ) (n p : ℕ) → AreKnownNumbers k (not_numbers (not_form.Last n))
+    → Follows k k text h (not_after (site_in k text h) k.stored text (not_form.Last n) pos at (Term (tree_at k.stored p))) (given (value.Term n) frame.Same)
 last_follows text h pos at n p r = follows_at_once text h _ _ (record { entrance = tt; control = r; frame = tt }) refl

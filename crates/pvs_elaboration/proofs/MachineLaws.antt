@@ -17,7 +17,7 @@ use Rattle.pvs_elaboration.specs.declared.choice.Branches.{Branches}
 use Rattle.pvs_elaboration.specs.declared.choice.ChoiceRow.{ChoiceRow}
 use Rattle.pvs_elaboration.specs.declared.choice.ChoiceRow.TheVariants.{First, Negation, Second, Join, Types, General, JoinFirst, JoinSecond, Made, CheckFirst, CheckNegation, CheckSecond, CheckLast}
 use Rattle.pvs_elaboration.specs.declared.choice.NotRow.{NotRow}
-use Rattle.pvs_elaboration.specs.declared.choice.NotRow.TheVariants as not
+use Rattle.pvs_elaboration.specs.declared.choice.NotRow.TheVariants as not_form
 use Rattle.pvs_elaboration.specs.declared.names.NameRow.{NameRow}
 use Rattle.pvs_elaboration.specs.declared.names.NameRow.TheVariants as name
 use Rattle.pvs_elaboration.specs.declared.apply.ApplyRow.{ApplyRow}
@@ -109,11 +109,11 @@ choice_stays z text (CheckSecond u p t) br g n = rw (tree_stays g n.0, tree_stay
 choice_stays z text (CheckLast p t) br g n = rw (tree_stays g n.0, tree_stays g n.1.0) refl
 
 not_stays : {a b : Known} (z : Site) (text : Sources) (f : NotRow) (pos at : ℕ) → Grows a b → AreKnownNumbers a (not_numbers f) → not_after z b.stored text f pos at ≡ not_after z a.stored text f pos at
-not_stays z text not.Tree pos at g n = refl
-not_stays z text (not.False u) pos at g n = rw (tree_stays g n.0) refl
-not_stays z text (not.Negation u p) pos at g n = rw (tree_stays g n.0, tree_stays g n.1.0) refl
-not_stays z text (not.True u) pos at g n = rw (tree_stays g n.0) refl
-not_stays z text (not.Last m) pos at g n = rw (tree_stays g n.0) refl
+not_stays z text not_form.Tree pos at g n = refl
+not_stays z text (not_form.False u) pos at g n = rw (tree_stays g n.0) refl
+not_stays z text (not_form.Negation u p) pos at g n = rw (tree_stays g n.0, tree_stays g n.1.0) refl
+not_stays z text (not_form.True u) pos at g n = rw (tree_stays g n.0) refl
+not_stays z text (not_form.Last m) pos at g n = rw (tree_stays g n.0) refl
 
 name_stays : {a b : Known} (z : Site) (text : Sources) (f : NameRow) (at : ℕ) → Grows a b → AreKnownNumbers a (name_numbers f) → name_after z b.stored text f at ≡ name_after z a.stored text f at
 name_stays z text name.Infer at g n = refl

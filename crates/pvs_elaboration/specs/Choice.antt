@@ -18,7 +18,7 @@ use Rattle.pvs_elaboration.specs.declared.choice.Branches.{Branches}
 use Rattle.pvs_elaboration.specs.declared.choice.ChoiceRow.{ChoiceRow}
 use Rattle.pvs_elaboration.specs.declared.choice.ChoiceRow.TheVariants.{First, Negation, Second, Join, Types, General, JoinFirst, JoinSecond, Made, CheckFirst, CheckNegation, CheckSecond, CheckLast}
 use Rattle.pvs_elaboration.specs.declared.choice.NotRow.{NotRow}
-use Rattle.pvs_elaboration.specs.declared.choice.NotRow.TheVariants as not
+use Rattle.pvs_elaboration.specs.declared.choice.NotRow.TheVariants as not_form
 use Rattle.pvs_elaboration.specs.Known.{Sources, place_in, Site}
 use Rattle.pvs_elaboration.specs.Meanings.{Meaning, Term, typed_at, typed_answer, term_answer, on_typed, on_term, on_formed, on_done, elab_at}
 
@@ -130,15 +130,15 @@ choice_numbers (CheckSecond u p a) = (OfType, u) ∷ (OfTerm, p) ∷ (OfTerm, a)
 choice_numbers (CheckLast p a) = (OfTerm, p) ∷ (OfTerm, a) ∷ []
 
 abbrev pub not_after : Site → Stored → Sources → NotRow → ℕ → ℕ → Meaning → Answer Meaning
-not_after z s text not.Tree pos at = on_term (λ p. typed_answer (negation_at (place_in text pos) p))
-not_after z s text (not.False u) pos at = on_term (λ p. term_answer (negation_as z.lookups z.here (place_in text pos) (place_in text at) (tree_at s u) p))
-not_after z s text (not.Negation u p) pos at = on_term (λ f. term_answer (not_tree z (place_in text pos) (place_in text at) (tree_at s u) (tree_at s p)))
-not_after z s text (not.True u) pos at = on_term (λ n. term_answer (not_true z (place_in text at) (tree_at s u) n))
-not_after z s text (not.Last n) pos at = on_term (λ t. Ok (Term (tree_at s n)))
+not_after z s text not_form.Tree pos at = on_term (λ p. typed_answer (negation_at (place_in text pos) p))
+not_after z s text (not_form.False u) pos at = on_term (λ p. term_answer (negation_as z.lookups z.here (place_in text pos) (place_in text at) (tree_at s u) p))
+not_after z s text (not_form.Negation u p) pos at = on_term (λ f. term_answer (not_tree z (place_in text pos) (place_in text at) (tree_at s u) (tree_at s p)))
+not_after z s text (not_form.True u) pos at = on_term (λ n. term_answer (not_true z (place_in text at) (tree_at s u) n))
+not_after z s text (not_form.Last n) pos at = on_term (λ t. Ok (Term (tree_at s n)))
 
 abbrev pub not_numbers : NotRow → List (Sort × ℕ)
-not_numbers not.Tree = []
-not_numbers (not.False u) = (OfType, u) ∷ []
-not_numbers (not.Negation u p) = (OfType, u) ∷ (OfTerm, p) ∷ []
-not_numbers (not.True u) = (OfType, u) ∷ []
-not_numbers (not.Last n) = (OfTerm, n) ∷ []
+not_numbers not_form.Tree = []
+not_numbers (not_form.False u) = (OfType, u) ∷ []
+not_numbers (not_form.Negation u p) = (OfType, u) ∷ (OfTerm, p) ∷ []
+not_numbers (not_form.True u) = (OfType, u) ∷ []
+not_numbers (not_form.Last n) = (OfTerm, n) ∷ []
