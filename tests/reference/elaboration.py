@@ -126,7 +126,7 @@ class Elab:
         return tree
 
     def actual_form(self, formal, actual):
-        """An actual as the type or the expression that its formal wants."""
+        """An actual as the type or the expression that its formal asks for."""
         is_type = actual[0] in ('subtype', 'tuple type', 'function')
         if formal.type_ is None and actual[0] == 'name':
             return ('name type',) + actual[1:]

@@ -32,7 +32,7 @@ class Sequent(namedtuple('Sequent', 'variables antecedents consequents')):
         return self.with_side(number < 0, side[:at] + (formula,) + side[at + 1:])
 
     def added(self, is_antecedent, *formulas):
-        """With new formulas in front; TRUE is no new antecedent and FALSE no new consequent."""
+        """With new formulas first; TRUE is no new antecedent and FALSE no new consequent."""
         kept = tuple(f for f in formulas if f is not (TRUE if is_antecedent else FALSE))
         return self.with_side(is_antecedent, kept + (self.antecedents if is_antecedent else self.consequents))
 

@@ -227,7 +227,7 @@ class Theory:
         return found
 
     def term(self, shape, locals_, depth):
-        """The text of a term of a shape; afterwards `is_weak` says whether it wants parentheses."""
+        """The text of a term of a shape; afterwards `is_weak` says whether it needs parentheses."""
         if self.chance(self.wrong):
             shape = self.shape(2)
         ways = [self.name_or_built]
@@ -242,7 +242,7 @@ class Theory:
         return text
 
     def operand(self, shape, locals_, depth):
-        """A term in parentheses where it wants them, and now and then without."""
+        """A term in parentheses where it needs them, and now and then without."""
         text = self.term(shape, locals_, depth)
         if self.is_weak and not self.chance(0.03):
             text = '(%s)' % text
