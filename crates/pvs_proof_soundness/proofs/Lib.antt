@@ -1,0 +1,3 @@
+pub mod ProvedLaws
+pub mod Entries
+pub mod OpenExample
