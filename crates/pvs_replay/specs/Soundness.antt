@@ -2,7 +2,7 @@
 use Rattle.std.specs.Prelude.{◌≡◌, Bool, true, List, [], ◌∷◌, None, Ok}
 use Rattle.pvs_terms.specs.Tree.{Ref}
 use Rattle.pvs_script.specs.declared.tree.Step.{Step}
-use Rattle.pvs_sem.specs.Truth.{Interpretation}
+use Rattle.pvs_sem.specs.Truth.{TruthAssignment}
 use Rattle.pvs_sequent.specs.Sequents.{Sequent}
 use Rattle.pvs_sequent.specs.Truth.{IsTrueSequent, AreTrueSequents}
 use Rattle.pvs_replay.specs.Effects.{Effect, Effects}
@@ -13,5 +13,5 @@ AreTrueFormulas is_true [] = Unit {0}
 AreTrueFormulas is_true (f ∷ fs) = (is_true f ≡ true) × AreTrueFormulas is_true fs
 
 -- a sequent is true where a step leaves nothing open, cites TRUE formulas and has true premises
-abbrev pub KeepsTruth : Interpretation → (Ref → Bool) → Effects → Type 0
-KeepsTruth m is_true effect = (x : Step) (q : Sequent) (e : Effect) → effect x q ≡ Ok e → e.left_open ≡ None → AreTrueFormulas is_true e.cited → AreTrueSequents m e.premises → IsTrueSequent m q
+abbrev pub KeepsTruth : TruthAssignment → (Ref → Bool) → Effects → Type 0
+KeepsTruth v is_true effect = (x : Step) (q : Sequent) (e : Effect) → effect x q ≡ Ok e → e.left_open ≡ None → AreTrueFormulas is_true e.cited → AreTrueSequents v e.premises → IsTrueSequent v q

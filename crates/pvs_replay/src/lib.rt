@@ -14,6 +14,3 @@ pub use logic::LogicRules;
 pub use outcome::Outcome;
 pub use replaying::replay;
 pub use sound::{logic_keeps_truth, replay_keeps_truth};
-
-#[cfg(test)]
-mod tests;

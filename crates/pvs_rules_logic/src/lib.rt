@@ -9,6 +9,3 @@ mod steps;
 pub use rule::LogicRule;
 pub use sound::step_keeps_truth;
 pub use steps::step;
-
-#[cfg(test)]
-mod tests;

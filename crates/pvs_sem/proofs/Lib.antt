@@ -1,4 +1,3 @@
-pub mod TruthLaws
 pub mod SetLaws
 pub mod PairLaws
 pub mod OrderLaws
@@ -6,4 +5,4 @@ pub mod TableLaws
 pub mod AscendingLaws
 pub mod MeaningLaws
 pub mod ReductLaws
-pub mod BooleanTruth
+pub mod ModelTruthLaws

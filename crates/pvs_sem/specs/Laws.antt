@@ -1,15 +1,15 @@
 -- Laws of meaning, for all trees, models and environments.
-use Rattle.std.specs.Prelude.{◌≡◌, true, List}
-use Rattle.pvs_terms.specs.Tree.{Text, Tree, Trees, AreClosed}
+use Rattle.std.specs.Prelude.{◌≡◌, ◌↔◌, true, List}
+use Rattle.pvs_terms.specs.Tree.{Text, Tree, TBool, Trees, AreClosed}
 use Rattle.pvs_terms.specs.Sorts.{IsTerm}
 use Rattle.pvs_subst.specs.Replace.{lift, put_in}
 use Rattle.pvs_subst.specs.Instance.{instantiate, HasActuals}
-use Rattle.pvs_sem.specs.Value.{Value, IsMember, IsAscending, is_true}
+use Rattle.pvs_sem.specs.Value.{Value, Truth, IsMember, IsAscending}
 use Rattle.pvs_sem.specs.Meaning.{Model, Env, env_with, env_rest, mean, inside}
 use Rattle.pvs_sem.specs.Reduct.{reduct}
 use Rattle.pvs_sem.specs.Interpretations.{FiniteMap, AreSets, model_of}
-use Rattle.pvs_sem.specs.Truth.{Interpretation, truth}
-use Rattle.pvs_sem.specs.BooleanTerms.{IsBooleanTerm, HasTruths}
+use Rattle.pvs_sem.specs.Truth.{truth}
+use Rattle.pvs_sem.specs.ModelTruth.{is_true_in}
 
 -- sets with the same members are equal
 abbrev pub SetsAreExtensional : Type 0
@@ -36,7 +36,15 @@ abbrev pub InstancesKeepMeaning : Type 0
 InstancesKeepMeaning = (m : Model) (th : Text) (acts : Trees) (t : Tree) (e : Env) → AreClosed acts → HasActuals acts t →
     (mean m (instantiate t th acts) e ≡ mean (reduct m th acts) t e) × (inside m (instantiate t th acts) e ≡ inside (reduct m th acts) t e)
 
--- the truth of a boolean term is its value
+-- the truth of a tree by the truth of its atoms in a model is its truth in the model
 abbrev pub TruthIsValue : Type 0
-TruthIsValue = (i : Interpretation) (m : Model) → HasTruths i m → (t : Tree) (e : Env) → IsBooleanTerm t
-    → truth i t ≡ is_true (mean m t e).value
+TruthIsValue = (m : Model) (e : Env) (t : Tree) → truth (is_true_in m e) t ≡ is_true_in m e t
+
+-- a term is TRUE by its atoms exactly if its value is TRUE
+abbrev pub TrueTermsAreTrue : Type 0
+TrueTermsAreTrue = (m : Model) (e : Env) (t : Tree) → truth (is_true_in m e) t ≡ true ↔ (mean m t e).value ≡ Truth true
+
+-- the value of a term of type bool is its truth by its atoms
+abbrev pub BooleanTermsAreTruths : Type 0
+BooleanTermsAreTruths = (m : Model) (e : Env) (t : Tree) → IsMember (mean m t e).value (mean m TBool e).set
+    → (mean m t e).value ≡ Truth (truth (is_true_in m e) t)

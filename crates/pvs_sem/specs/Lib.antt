@@ -1,9 +1,8 @@
 pub mod Truth
-pub mod Sequents
 pub mod Value
 pub mod Meaning
 pub mod Reduct
 pub mod Interpretations
 pub mod Satisfies
-pub mod BooleanTerms
+pub mod ModelTruth
 pub mod Laws

@@ -1,23 +1,23 @@
--- The meaning of boolean core trees.
+-- The truth of a tree by the truth of its atoms: of the trees that are neither a truth value nor a choice.
 use Rattle.std.specs.Prelude.{Bool, true, false, if◌then◌else◌, List}
 use Rattle.std.specs.List.{list_all, list_any}
-use Rattle.pvs_terms.specs.Tree.{Tree, Ref, True, Const, If}
+use Rattle.pvs_terms.specs.Tree.{Tree, True, False, If}
 
--- an interpretation gives each boolean constant a truth value
-abbrev pub Interpretation : Type 0
-Interpretation = Ref → Bool
+-- a truth value for each atom; what it gives to other trees does not count
+abbrev pub TruthAssignment : Type 0
+TruthAssignment = Tree → Bool
 
--- The truth value of a boolean term. Every other tree is FALSE.
-abbrev pub truth : Interpretation → Tree → Bool
-truth m True = true
-truth m (Const r) = m r
-truth m (If c a b) = if truth m c then truth m a else truth m b
-truth m _ = false
+-- the truth value of a tree
+abbrev pub truth : TruthAssignment → Tree → Bool
+truth v True = true
+truth v False = false
+truth v (If c a b) = if truth v c then truth v a else truth v b
+truth v t = v t
 
--- whether all terms are TRUE
-abbrev pub all_true : Interpretation → List Tree → Bool
-all_true m ts = list_all (truth m) ts
+-- whether all trees are TRUE
+abbrev pub all_true : TruthAssignment → List Tree → Bool
+all_true v ts = list_all (truth v) ts
 
--- whether some term is TRUE
-abbrev pub some_true : Interpretation → List Tree → Bool
-some_true m ts = list_any (truth m) ts
+-- whether some tree is TRUE
+abbrev pub some_true : TruthAssignment → List Tree → Bool
+some_true v ts = list_any (truth v) ts

@@ -5,7 +5,6 @@ use Rattle.std.specs.Map.{lookup}
 use Rattle.std.specs.Option.{unwrap_or}
 use Rattle.std.proofs.lemmas.Bool.{eqb-true, cases_eq, cases_lt, lt-ltb, le-ltb}
 use Rattle.std.proofs.lemmas.List.Sums.{sum_by-cons, count_by-le-length}
-use Rattle.pvs_sem.proofs.TruthLaws.{list_any_at}
 use Rattle.pvs_sequent.specs.Counts.{times, counted, IsCountOf, count_among}
 
 -- different numbers, by the test
@@ -15,6 +14,18 @@ apart a b h = go (eqb a b) refl
     go : (c : Bool) → eqb a b ≡ c → eqb a b ≡ false
     go true e = absurd (h (eqb-true a b e))
     go false e = e
+
+or_swap : (a b c : Bool) → (a || (b || c)) ≡ (b || (a || c))
+or_swap true true c = refl
+or_swap true false c = refl
+or_swap false true c = refl
+or_swap false false c = refl
+
+-- some item passes exactly if one of them or some other does
+list_any_at : {X : Type 0} (p : X → Bool) (xs : List X) (i : ℕ) (x : X) → slice_get xs i ≡ Some x → list_any p xs ≡ (p x || list_any p (remove xs i))
+list_any_at p [] i x h = cc
+list_any_at {X} p (y ∷ ys) zero x h = let e : y ≡ x = cc in ap (λ (z : X). p z || list_any p ys) e
+list_any_at p (y ∷ ys) (suc i) x h = ap (λ (b : Bool). p y || b) (list_any_at p ys i x h) ∙ or_swap (p y) (p x) (list_any p (remove ys i))
 
 -- one item more, and one item less
 pub count-cons : {X : Type 0} (p : X → Bool) (x : X) (xs : List X) → count_by p (x ∷ xs) ≡ cond (p x) 1 0 + count_by p xs

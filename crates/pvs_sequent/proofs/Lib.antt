@@ -5,3 +5,4 @@ pub mod PremiseLaws
 pub mod Refutations
 pub mod OutcomeLaws
 pub mod ExtendsLaws
+pub mod GoalLaws

@@ -3,7 +3,7 @@ use Rattle.std.proofs.Common.{◌≡◌, refl, subst, ◌⊎◌, inl, inr, Bool,
 use Rattle.pvs_base.specs.declared.code.Code.{Code}
 use Rattle.pvs_terms.specs.Tree.{Tree}
 use Rattle.pvs_subst.specs.Contexts.{Obligation}
-use Rattle.pvs_sem.specs.Truth.{Interpretation, truth}
+use Rattle.pvs_sem.specs.Truth.{TruthAssignment, truth}
 use Rattle.pvs_sequent.specs.declared.place.Side.TheVariants as side
 use Rattle.pvs_sequent.specs.Sequents.{Sequent, add, is_closed}
 use Rattle.pvs_sequent.specs.Outcomes.{Conditions, Outcome, Refused, Accepted, after_conditions, ◌>>=◌, ◌>>◌, found, only, applicable}
@@ -108,14 +108,14 @@ module _ (R : Sequent → Type 0) (none_closed : (q : Sequent) → is_closed q �
         go (inl j) = refuted_left (kept qs) (still_open (owed q cs)) (kept_refuted qs (h j))
         go (inr j) = refuted_right (kept qs) (still_open (owed q cs)) (open_refuted (owed q cs) j)
 
--- the interpretation of boolean terms is a valuation, and refutes none of the true sequents
-pub truth_valuation : (m : Interpretation) → IsValuation (truth m)
-truth_valuation m = record { yes = refl; no = refl }
+-- truth by a truth assignment is a valuation, and refutes none of the true sequents
+pub truth_valuation : (v : TruthAssignment) → IsValuation (truth v)
+truth_valuation v = record { yes = refl; no = refl }
 
-pub none_closed_in : (m : Interpretation) (q : Sequent) → is_closed q ≡ true → Refutes (truth m) q → ⊥
-none_closed_in m q h r = refuted_closed (truth m) (truth_valuation m) q h r
+pub none_closed_in : (v : TruthAssignment) (q : Sequent) → is_closed q ≡ true → Refutes (truth v) q → ⊥
+none_closed_in v q h r = refuted_closed (truth v) (truth_valuation v) q h r
 
-pub true_none_refuted : (m : Interpretation) (qs : List Sequent) → AreTrueSequents m qs → SomeOf (Refutes (truth m)) qs → ⊥
-true_none_refuted m [] h r = r
-true_none_refuted m (q ∷ qs) h (inl r) = true_not_refuted m q h.0 r
-true_none_refuted m (q ∷ qs) h (inr k) = true_none_refuted m qs h.1 k
+pub true_none_refuted : (v : TruthAssignment) (qs : List Sequent) → AreTrueSequents v qs → SomeOf (Refutes (truth v)) qs → ⊥
+true_none_refuted v [] h r = r
+true_none_refuted v (q ∷ qs) h (inl r) = true_not_refuted v q h.0 r
+true_none_refuted v (q ∷ qs) h (inr k) = true_none_refuted v qs h.1 k

@@ -1,10 +1,10 @@
 -- How a refutation of a sequent goes over to what a rule makes of it. A valuation gives each
--- formula a truth value: that of an interpretation, and of values for the variables.
+-- formula a truth value: its truth by a truth assignment, or in a model and an environment.
 use Rattle.std.proofs.Common.{◌≡◌, ◌∙◌, refl, sym, ap, ℕ, zero, suc, Bool, true, false, cond, ◌||◌, List, [], ◌∷◌, remove, slice_get, Some}
 use Rattle.std.proofs.lemmas.Bool.{true≢false}
 use Rattle.pvs_terms.specs.Tree.{Tree, True, False, tree_eq}
 use Rattle.pvs_terms.proofs.TreeLaws.{tree_eq-true, both, all_true as both_true}
-use Rattle.pvs_sem.specs.Truth.{Interpretation, truth, all_true, some_true}
+use Rattle.pvs_sem.specs.Truth.{TruthAssignment, truth, all_true, some_true}
 use Rattle.pvs_sequent.specs.declared.place.Place.{Place}
 use Rattle.pvs_sequent.specs.declared.place.Place.TheVariants as place
 use Rattle.pvs_sequent.specs.declared.place.Side.{Side}
@@ -95,34 +95,34 @@ module _ (v : Tree → Bool) where
       go true x j = true≢false (sym (all_among true False q.antecedents x r.assumed) ∙ w.no)
       go false x j = two (is_among True q.consequents) refl j
 
--- a sequent is true where no refutation is one by its interpretation
+-- a sequent is true where its truth assignment does not refute it
 
-all_assumed : (m : Interpretation) (ts : List Tree) → all_true m ts ≡ true → AllAre (truth m) true ts
-all_assumed m [] h = tt
-all_assumed m (t ∷ ts) h = let b = both (truth m t) (all_true m ts) h in (b.0, all_assumed m ts b.1)
+all_assumed : (v : TruthAssignment) (ts : List Tree) → all_true v ts ≡ true → AllAre (truth v) true ts
+all_assumed v [] h = tt
+all_assumed v (t ∷ ts) h = let b = both (truth v t) (all_true v ts) h in (b.0, all_assumed v ts b.1)
 
-all_denied : (m : Interpretation) (ts : List Tree) → some_true m ts ≡ false → AllAre (truth m) false ts
-all_denied m [] h = tt
-all_denied m (t ∷ ts) h = go (truth m t) refl (all_denied m ts) h
+all_denied : (v : TruthAssignment) (ts : List Tree) → some_true v ts ≡ false → AllAre (truth v) false ts
+all_denied v [] h = tt
+all_denied v (t ∷ ts) h = go (truth v t) refl (all_denied v ts) h
   where
-    go : (c : Bool) → truth m t ≡ c → (some_true m ts ≡ false → AllAre (truth m) false ts) → (c || some_true m ts) ≡ false → AllAre (truth m) false (t ∷ ts)
+    go : (c : Bool) → truth v t ≡ c → (some_true v ts ≡ false → AllAre (truth v) false ts) → (c || some_true v ts) ≡ false → AllAre (truth v) false (t ∷ ts)
     go true x ih j = cc
     go false x ih j = (x, ih j)
 
-assumed_all : (m : Interpretation) (ts : List Tree) → AllAre (truth m) true ts → all_true m ts ≡ true
-assumed_all m [] h = refl
-assumed_all m (t ∷ ts) h = both_true h.0 (assumed_all m ts h.1)
+assumed_all : (v : TruthAssignment) (ts : List Tree) → AllAre (truth v) true ts → all_true v ts ≡ true
+assumed_all v [] h = refl
+assumed_all v (t ∷ ts) h = both_true h.0 (assumed_all v ts h.1)
 
-denied_all : (m : Interpretation) (ts : List Tree) → AllAre (truth m) false ts → some_true m ts ≡ false
-denied_all m [] h = refl
-denied_all m (t ∷ ts) h = rw h.0 (denied_all m ts h.1)
+denied_all : (v : TruthAssignment) (ts : List Tree) → AllAre (truth v) false ts → some_true v ts ≡ false
+denied_all v [] h = refl
+denied_all v (t ∷ ts) h = rw h.0 (denied_all v ts h.1)
 
-pub true_not_refuted : (m : Interpretation) (q : Sequent) → IsTrueSequent m q → Refutes (truth m) q → ⊥
-true_not_refuted m q h r = true≢false (sym (h (assumed_all m q.antecedents r.assumed)) ∙ denied_all m q.consequents r.denied)
+pub true_not_refuted : (v : TruthAssignment) (q : Sequent) → IsTrueSequent v q → Refutes (truth v) q → ⊥
+true_not_refuted v q h r = true≢false (sym (h (assumed_all v q.antecedents r.assumed)) ∙ denied_all v q.consequents r.denied)
 
-pub not_refuted_true : (m : Interpretation) (q : Sequent) → (Refutes (truth m) q → ⊥) → IsTrueSequent m q
-not_refuted_true m q h a = go (some_true m q.consequents) refl
+pub not_refuted_true : (v : TruthAssignment) (q : Sequent) → (Refutes (truth v) q → ⊥) → IsTrueSequent v q
+not_refuted_true v q h a = go (some_true v q.consequents) refl
   where
-    go : (c : Bool) → some_true m q.consequents ≡ c → some_true m q.consequents ≡ true
+    go : (c : Bool) → some_true v q.consequents ≡ c → some_true v q.consequents ≡ true
     go true x = x
-    go false x = absurd (h (record { assumed = all_assumed m q.antecedents a; denied = all_denied m q.consequents x }))
+    go false x = absurd (h (record { assumed = all_assumed v q.antecedents a; denied = all_denied v q.consequents x }))

@@ -1,5 +1,5 @@
 -- Sequents of core trees: their formulas by number, and what a rule does to one.
-use Rattle.std.specs.Prelude.{zero, suc, ℤ, pos, negsuc, Bool, ◌||◌, if◌then◌else◌, List, ◌∷◌, remove, slice_get, Option, None}
+use Rattle.std.specs.Prelude.{zero, suc, ℤ, pos, negsuc, Bool, ◌||◌, if◌then◌else◌, List, [], ◌∷◌, remove, slice_get, Option, None}
 use Rattle.std.specs.List.{list_any}
 use Rattle.pvs_terms.specs.Tree.{Tree, True, False, tree_eq}
 use Rattle.pvs_sequent.specs.declared.place.Place.{Place}
@@ -14,6 +14,10 @@ pub record Sequent : Type 0 where
   pub variables : List Tree
   pub antecedents : List Tree
   pub consequents : List Tree
+
+-- the sequent that is to be proved of a formula
+abbrev pub goal : Tree → Sequent
+goal t = record { variables = []; antecedents = []; consequents = t ∷ [] }
 
 -- where the formula of a number stands: 1, 2, .. are consequents and -1, -2, .. antecedents
 abbrev pub place_of : ℤ → Place

@@ -15,6 +15,3 @@ pub use list::IdList;
 pub use place::{Place, Side, place_of, side_of};
 pub use premises::push_open;
 pub use sequent::Sequent;
-
-#[cfg(test)]
-mod tests;

@@ -2,7 +2,7 @@
 
 ghost use Rattle.std.specs.Prelude.{◌≡◌, [], ◌∷◌, IfOk, OnErr, OnOk, IsSome};
 ghost use Rattle.pvs_terms.specs.Stored.{Stored, IsNode, tree_at};
-ghost use Rattle.pvs_sequent.specs.Sequents.{add, formula_at, is_closed, place_of, with_first, without};
+ghost use Rattle.pvs_sequent.specs.Sequents.{add, formula_at, goal, is_closed, place_of, with_first, without};
 ghost use Rattle.pvs_sequent.specs.Numbers.{HasAdded, IsBefore, IsFormula, IsSequent, StandsFor, sequent_at};
 
 use crate::closing::{is_antecedent, is_consequent, is_redundant, share};
@@ -35,7 +35,7 @@ impl Sequent {
     /// The sequent that is to be proved of a formula: the formula is its only consequent.
     pub fn goal(alloc: Global, store: &Store, formula: Id) -> Result<Sequent, AllocError>
         requires { IsNode store.now formula }
-        ensures { IfOk result (StandsFor store.now (record { variables = []; antecedents = []; consequents = tree_at store.now formula ∷ [] })) }
+        ensures { IfOk result (StandsFor store.now (goal (tree_at store.now formula))) }
     {
         let mut sides = Sides::new(alloc);
         sides.push_consequent(formula)?;

@@ -2,7 +2,7 @@ use Rattle.pvs_sem.proofs.OrderLaws.{same_sets}
 use Rattle.pvs_sem.proofs.AscendingLaws.{ascending_mean, ascending_model}
 use Rattle.pvs_sem.proofs.MeaningLaws.{mean-next, inside-next, mean-put_in, inside-put_in}
 use Rattle.pvs_sem.proofs.ReductLaws.{mean-instantiate, inside-instantiate}
-use Rattle.pvs_sem.proofs.BooleanTruth.{truth_is_value}
+use Rattle.pvs_sem.proofs.ModelTruthLaws.{truth_is_value, true_terms_are_true, boolean_terms_are_truths}
 use Rattle.pvs_sem.specs.Interpretations.{model_of}
 use Rattle.pvs_sem.proofs.meaning_is_lawful.Goals as goal
 
@@ -14,4 +14,6 @@ returns c = record {
   replacement = λ m t u e k. (mean-put_in m t u e k, inside-put_in m t u e k);
   instances = λ m th acts t e c h. (mean-instantiate m th acts c t e h, inside-instantiate m th acts c t e h);
   truths = truth_is_value;
+  true_terms = true_terms_are_true;
+  boolean_terms = boolean_terms_are_truths;
 }

@@ -1,5 +1,5 @@
 use Rattle.pvs_sequent.proofs.ExtendsLaws.{sequent_extends}
-use Rattle.pvs_sequent.proofs.tests.adds_true.Goals as goal
+use Rattle.pvs_sequent_tests.proofs.tests.sequents.adds_true.Goals as goal
 
 pub add_both-requires-clause-sequent : goal.add_both-requires-clause-sequent
 add_both-requires-clause-sequent g c =

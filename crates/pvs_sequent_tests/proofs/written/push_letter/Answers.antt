@@ -1,5 +1,5 @@
 use Rattle.pvs_sequent.proofs.ExtendsLaws.{sequent_extends}
-use Rattle.pvs_sequent.proofs.tests.push_letter.Goals as goal
+use Rattle.pvs_sequent_tests.proofs.written.push_letter.Goals as goal
 
 pub push_first-requires-clause-sequent : goal.push_first-requires-clause-sequent
 push_first-requires-clause-sequent c =

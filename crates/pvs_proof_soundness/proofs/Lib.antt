@@ -1,0 +1,2 @@
+pub mod ProvedLaws
+pub mod OpenExample

@@ -1,5 +1,0 @@
-use Rattle.pvs_sequent.specs.Numbers.{IsSequent}
-use Rattle.pvs_sequent.proofs.tests.push_letters.Given as goal
-
-abbrev pub invariant-loop-i : goal.invariant-loop-i
-invariant-loop-i l = IsSequent l.store l.sequent
