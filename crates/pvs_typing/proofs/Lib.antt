@@ -1,6 +1,7 @@
 pub mod GrowthLaws
 pub mod FormsOver
 pub mod OwedLaws
+pub mod AboveLaws
 pub mod NodeLaws
 pub mod PartLaws
 pub mod JudgingLaws

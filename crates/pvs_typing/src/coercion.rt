@@ -5,6 +5,7 @@ ghost use Rattle.pvs_terms.specs.Stored.{IsName, tree_at};
 ghost use Rattle.pvs_subst.specs.Contexts.{context_at};
 ghost use Rattle.pvs_sig.specs.Lookups.{IsOrdered};
 ghost use Rattle.pvs_types.specs.Coerce.{coerce};
+ghost use Rattle.pvs_typing.specs.Above.{IsListed};
 ghost use Rattle.pvs_typing.specs.code.Tasks.{conditions_after, tasks_after};
 ghost use Rattle.pvs_typing.specs.State.{IsTypeOf, IsTermOf, IsContextOf, AreConditionsOf};
 ghost use Rattle.pvs_typing.specs.Judging.{Coerces, JudgesType};
@@ -12,8 +13,9 @@ ghost use Rattle.pvs_typing.specs.Judging.{Coerces, JudgesType};
 use crate::contexts::copy_context;
 use crate::fault::TypeFault;
 use crate::judged::Judged;
-use crate::steps::step;
-use crate::tasks::{Next, Task};
+use crate::nodes::known_node;
+use crate::steps::{list_above, step};
+use crate::tasks::{Above, Next, Task};
 use crate::theories::Theories;
 use pvs_subst::{Condition, Context};
 use pvs_terms::{Id, Name};
@@ -45,6 +47,44 @@ fn add_next(
     Ok(())
 }
 
+/// Adds the conditions under which a term of the type `from` is of the type `to`, where the types above
+/// some type are listed.
+fn coerce_listed<T: Theories>(
+    theories: &mut T,
+    theory: Name,
+    above: &Above,
+    g: &Context,
+    term: Id,
+    from: Id,
+    to: Id,
+    conditions: &mut Vec<Condition>,
+) -> Result<(), TypeFault>
+    requires theory { IsName (T.state theories.old).stored theory }
+    requires above { IsListed (T.state theories.old) theory above.now }
+    requires context { IsContextOf (T.state theories.old) theory g.now.items }
+    requires term { IsTermOf (T.state theories.old) theory term }
+    requires from { IsTypeOf (T.state theories.old) theory from }
+    requires to { IsTypeOf (T.state theories.old) theory to }
+    requires conditions { AreConditionsOf (T.state theories.old) theory conditions.old.items }
+    requires ordered { IsOrdered ((T.state theories.old).lookups theory) }
+    ensures { Coerces (T.state theories.old) (T.state theories.new) theory conditions.old.items conditions.new.items (λ s l. coerce l (context_at s g.now.items) (tree_at s term) (tree_at s from) (tree_at s to)) result }
+{
+    let alloc = theories.store().allocator();
+    let context = copy_context(alloc, g)?;
+    let mut tasks = Vec::new(alloc);
+    tasks.push(Task::Coerce {
+        context,
+        term,
+        from,
+        to,
+    })?;
+    while let Some(task) = tasks.pop() {
+        let next = step(theories, theory, above, task)?;
+        add_next(&mut tasks, conditions, next)?;
+    }
+    Ok(())
+}
+
 /// Adds the conditions under which a term of the type `from` is of the type `to`.
 pub(crate) fn coerce_of<T: Theories>(
     theories: &mut T,
@@ -64,20 +104,9 @@ pub(crate) fn coerce_of<T: Theories>(
     requires ordered { IsOrdered ((T.state theories.old).lookups theory) }
     ensures { Coerces (T.state theories.old) (T.state theories.new) theory conditions.old.items conditions.new.items (λ s l. coerce l (context_at s g.now.items) (tree_at s term) (tree_at s from) (tree_at s to)) result }
 {
-    let alloc = theories.store().allocator();
-    let context = copy_context(alloc, g)?;
-    let mut tasks = Vec::new(alloc);
-    tasks.push(Task::Coerce {
-        context,
-        term,
-        from,
-        to,
-    })?;
-    while let Some(task) = tasks.pop() {
-        let next = step(theories, theory, task)?;
-        add_next(&mut tasks, conditions, next)?;
-    }
-    Ok(())
+    let _term = known_node(theories, theory, term);
+    let above = list_above(theories, theory, from)?;
+    coerce_listed(theories, theory, &above, g, term, from, to, conditions)
 }
 
 /// The conditions under which a term of the type `from` is of the type `to` (CSL-97-2, subtypes and

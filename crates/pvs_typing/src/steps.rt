@@ -6,7 +6,7 @@ ghost use Rattle.pvs_terms.specs.Stored.{IsName, IsRef, tree_at, ref_at};
 ghost use Rattle.pvs_subst.specs.Contexts.{context_at};
 ghost use Rattle.pvs_sig.specs.Lookups.{IsOrdered};
 ghost use Rattle.pvs_types.specs.Coerce.{coerce, coerce_to, coerce_parts, coerce_function};
-ghost use Rattle.pvs_typing.specs.Above.{is_above};
+ghost use Rattle.pvs_typing.specs.Above.{is_above, IsListed, Lists};
 ghost use Rattle.pvs_typing.specs.Answers.{Finds};
 ghost use Rattle.pvs_typing.specs.code.Tasks.{IsCoercionOf, IsTaskOf, Passes, Steps, apply_outcome, coercion_work, head_outcome, satisfy_outcome, second_outcome, task_outcome, task_work};
 ghost use Rattle.pvs_typing.specs.State.{IsTypeOf, IsTermOf, IsContextOf};
@@ -18,25 +18,45 @@ use crate::nodes::{is_same, known_node};
 use crate::parts::{
     application, first_part, is_among, lift_both, new_variable, second_part, substitute_both,
 };
-use crate::tasks::{Next, Task};
+use crate::tasks::{Above, Next, Task};
 use crate::theories::Theories;
 use pvs_base::Code;
 use pvs_subst::{Assumed, Condition, Context};
 use pvs_terms::{Id, Name, Node, RefId};
 
-/// Whether a type is another one, or above it.
+/// The types above a type, itself first.
+pub(crate) fn list_above<T: Theories>(
+    theories: &mut T,
+    theory: Name,
+    of: Id,
+) -> Result<Above, TypeFault>
+    requires theory { IsName (T.state theories.old).stored theory }
+    requires of { IsTypeOf (T.state theories.old) theory of }
+    requires ordered { IsOrdered ((T.state theories.old).lookups theory) }
+    ensures { Lists (T.state theories.old) (T.state theories.new) theory of result }
+{
+    let types = up_of(theories, theory, of)?;
+    Ok(Above { of, types })
+}
+
+/// Whether a type is another one, or above it, where the types above some type are listed.
 fn is_above<T: Theories>(
     theories: &mut T,
     theory: Name,
+    above: &Above,
     from: Id,
     to: Id,
 ) -> Result<bool, TypeFault>
     requires theory { IsName (T.state theories.old).stored theory }
+    requires above { IsListed (T.state theories.old) theory above.now }
     requires from { IsTypeOf (T.state theories.old) theory from }
     requires to { IsTypeOf (T.state theories.old) theory to }
     requires ordered { IsOrdered ((T.state theories.old).lookups theory) }
     ensures { Finds (T.state theories.old) (T.state theories.new) theory (λ s l. is_above l (tree_at s from) (tree_at s to)) result }
 {
+    if from == above.of {
+        return Ok(is_among(theories, theory, to, &above.types));
+    }
     let types = up_of(theories, theory, from)?;
     let found = is_among(theories, theory, to, &types);
     Ok(found)
@@ -362,18 +382,20 @@ fn coerce_to<T: Theories>(
 fn coerce_step<T: Theories>(
     theories: &mut T,
     theory: Name,
+    above: &Above,
     context: Context,
     term: Id,
     from: Id,
     to: Id,
 ) -> Result<Next, TypeFault>
     requires theory { IsName (T.state theories.old).stored theory }
+    requires above { IsListed (T.state theories.old) theory above.now }
     requires coercion { IsCoercionOf (T.state theories.old) theory context term from to }
     requires ordered { IsOrdered ((T.state theories.old).lookups theory) }
     ensures { Steps (T.state theories.old) (T.state theories.new) theory (λ s l. coerce l (context_at s context.items) (tree_at s term) (tree_at s from) (tree_at s to)) (λ s l. coercion_work l (tree_at s from) (tree_at s to)) result }
 {
     let _term = known_node(theories, theory, term);
-    if is_above(theories, theory, from, to)? {
+    if is_above(theories, theory, above, from, to)? {
         return Ok(Next::Done);
     }
     let next = coerce_to(theories, theory, context, term, from, to)?;
@@ -451,13 +473,15 @@ fn apply_step<T: Theories>(
     }))
 }
 
-/// One task.
+/// One task, where the types above some type are listed.
 pub(crate) fn step<T: Theories>(
     theories: &mut T,
     theory: Name,
+    above: &Above,
     task: Task,
 ) -> Result<Next, TypeFault>
     requires theory { IsName (T.state theories.old).stored theory }
+    requires above { IsListed (T.state theories.old) theory above.now }
     requires task { IsTaskOf (T.state theories.old) theory task }
     requires ordered { IsOrdered ((T.state theories.old).lookups theory) }
     ensures { Steps (T.state theories.old) (T.state theories.new) theory (λ s l. task_outcome l s task) (λ s l. task_work l s task) result }
@@ -468,7 +492,7 @@ pub(crate) fn step<T: Theories>(
             term,
             from,
             to,
-        } => coerce_step(theories, theory, context, term, from, to),
+        } => coerce_step(theories, theory, above, context, term, from, to),
         Task::Satisfy {
             context,
             predicate,

@@ -3,6 +3,13 @@
 use pvs_subst::{Condition, Context};
 use pvs_terms::Id;
 
+/// The types above one type, itself first. A coercion lists those of the type that it starts from once.
+#[derive(Debug, Drop)]
+pub(crate) struct Above {
+    pub of: Id,
+    pub types: Vec<Id>,
+}
+
 /// A step of a coercion that is left to take.
 #[derive(Debug, Drop)]
 pub(crate) enum Task {

@@ -1,2 +1,1 @@
 pub mod ExampleLaws
-pub mod SmallTheoryLaws

@@ -1,53 +1,43 @@
 use Rattle.pvs_terms.specs.Stored.{tree_at}
 use Rattle.pvs_subst.specs.Contexts.{context_at}
-use Rattle.pvs_types.specs.Coerce.{coerce}
-use Rattle.pvs_typing.specs.Owed.{conditions_at}
-use Rattle.pvs_typing.proofs.GrowthLaws.{keeps_trans}
-use Rattle.pvs_typing.proofs.StackLaws.{last_known, loop_goes_on, loop_less, loop_fault}
+use Rattle.pvs_typing.proofs.GrowthLaws.{known_kept, context_kept}
+use Rattle.pvs_typing.proofs.OwedLaws.{conditions_kept}
+use Rattle.pvs_typing.proofs.AboveLaws.{up_refused, coerces_later}
+use Rattle.pvs_typing.proofs.TaskLaws.{coerce_above_fault}
 use Rattle.pvs_typing.proofs.JudgingLaws.{result_err}
 use Rattle.pvs_typing.proofs.coercion.coerce_of.Goals as goal
 
-pub step-requires-clause-task : goal.step-requires-clause-task
-step-requires-clause-task g c =
-    let t = g.T.Theories in
-    let w = c.loop-task.theories in
-    last_known (t.state w).stored ((t.state w).declares c.args.theory) c.pop.new.self.items c.loop-task.tasks.items c.in-Some.task c.in-Some.ensures.items c.loop-task.invariant.left.tasks
+pub coerce_listed-requires-clause-context : goal.coerce_listed-requires-clause-context
+coerce_listed-requires-clause-context g c = context_kept c.args.g.now.items c.in_ok-above.ensures.kept c.requires.context
 
-pub returns-in_err-next : goal.returns-in_err-next
-returns-in_err-next g c =
+pub coerce_listed-requires-clause-term : goal.coerce_listed-requires-clause-term
+coerce_listed-requires-clause-term g c = known_kept _ c.args.term c.in_ok-above.ensures.kept c.requires.term
+
+pub coerce_listed-requires-clause-from : goal.coerce_listed-requires-clause-from
+coerce_listed-requires-clause-from g c = known_kept _ c.args.from c.in_ok-above.ensures.kept c.requires.from
+
+pub coerce_listed-requires-clause-to : goal.coerce_listed-requires-clause-to
+coerce_listed-requires-clause-to g c = known_kept _ c.args.to c.in_ok-above.ensures.kept c.requires.to
+
+pub coerce_listed-requires-clause-conditions : goal.coerce_listed-requires-clause-conditions
+coerce_listed-requires-clause-conditions g c = conditions_kept c.args.conditions.now.items c.in_ok-above.ensures.kept c.requires.conditions
+
+pub returns : goal.returns
+returns g c =
+    let a = c.args in
+    coerces_later a.theory a.g.now.items a.term a.from a.to a.conditions.now.items c.coerce_listed.new.conditions.items c.coerce_listed.result c.in_ok-above.ensures.kept
+    c.requires.context c.requires.term c.requires.from c.requires.to c.requires.conditions c.coerce_listed.ensures
+
+pub returns-in_err-above : goal.returns-in_err-above
+returns-in_err-above g c =
     let t = g.T.Theories in
     let a = c.args in
     let s = (t.state a.theories.now).stored in
-    let i = c.loop-task.invariant in
-    rw (result_err c.from_residual-in_err-next.result c.from_residual-in_err-next.ensures.1) (record {
+    let l = (t.state a.theories.now).lookups a.theory in
+    rw (result_err c.from_residual.result c.from_residual.ensures.1) (record {
       ok = tt;
       known = tt;
-      refused = loop_fault (conditions_at s a.conditions.now.items) (coerce ((t.state a.theories.now).lookups a.theory) (context_at s a.g.now.items) (tree_at s a.term) (tree_at s a.from) (tree_at s a.to))
-          c.loop-task.conditions.items c.pop.new.self.items c.loop-task.tasks.items c.in-Some.task c.in_err-next.field-0.0 i.left c.in-Some.ensures.items i.kept.lookups c.in_err-next.ensures.refused;
-      kept = keeps_trans c.loop-task.invariant.kept c.in_err-next.ensures.kept;
+      refused = coerce_above_fault l c.requires.ordered (context_at s a.g.now.items) (tree_at s a.term) (tree_at s a.from) (tree_at s a.to) c.known_node-term.ensures.sorted c.requires.term.sort
+          c.in_err-above.field-0.0 (up_refused l (tree_at s a.from) (tree_at s a.to) c.in_err-above.field-0.0 c.in_err-above.ensures.refused);
+      kept = c.in_err-above.ensures.kept;
     })
-
-pub returns-in_err-add_next : goal.returns-in_err-add_next
-returns-in_err-add_next g c =
-    rw (result_err c.from_residual-in_err-add_next.result c.from_residual-in_err-add_next.ensures.1) (record {
-      ok = tt;
-      known = tt;
-      refused = tt;
-      kept = keeps_trans c.loop-task.invariant.kept c.in_ok-next.ensures.kept;
-    })
-
-pub loop-task-preserved : goal.loop-task-preserved
-loop-task-preserved g c =
-    let i = c.loop-task.invariant in
-    let added = c.in_ok-add_next.ensures in
-    record {
-      kept = keeps_trans i.kept c.in_ok-next.ensures.kept;
-      left = loop_goes_on c.loop-task.conditions.items c.add_next.new.conditions.items c.pop.new.self.items c.loop-task.tasks.items c.add_next.new.tasks.items c.in-Some.task c.in_ok-next.next
-          i.left c.in-Some.ensures.items i.kept.lookups c.in_ok-next.ensures.kept c.in_ok-next.ensures.ok added.conditions added.tasks;
-    }
-
-pub loop-task-smaller : goal.loop-task-smaller
-loop-task-smaller g c =
-    let i = c.loop-task.invariant in
-    loop_less c.loop-task.conditions.items c.pop.new.self.items c.loop-task.tasks.items c.add_next.new.tasks.items c.in-Some.task c.in_ok-next.next
-    i.left c.in-Some.ensures.items i.kept.lookups c.in_ok-next.ensures.kept c.in_ok-next.ensures.ok c.in_ok-add_next.ensures.tasks

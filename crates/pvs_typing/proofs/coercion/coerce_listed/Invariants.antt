@@ -6,7 +6,7 @@ use Rattle.pvs_types.specs.Coerce.{coerce}
 use Rattle.pvs_typing.specs.State.{Grows}
 use Rattle.pvs_typing.specs.Owed.{conditions_at}
 use Rattle.pvs_typing.specs.code.Tasks.{Leaves, stack_work}
-use Rattle.pvs_typing.proofs.coercion.coerce_of.Given as goal
+use Rattle.pvs_typing.proofs.coercion.coerce_listed.Given as goal
 
 abbrev pub invariant-loop-task : goal.invariant-loop-task
 invariant-loop-task g l =
