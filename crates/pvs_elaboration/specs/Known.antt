@@ -8,6 +8,7 @@ use Rattle.pvs_terms.specs.Stored.{Stored, IsRef, tree_at, ref_at}
 use Rattle.pvs_subst.specs.Replace.{lift}
 use Rattle.pvs_subst.specs.Contexts.{context_at}
 use Rattle.pvs_subst.specs.declared.context.Assumed.TheVariants as assumed
+use Rattle.pvs_sig.specs.Development.{Development}
 use Rattle.pvs_sig.specs.Lookups.{Lookups, IsOrdered}
 use Rattle.pvs_types.specs.Outcome.{Outcome, Conditions, Accepted}
 use Rattle.pvs_typing.specs.Growth.{IsKnown, IsKnownContext, Keeps}
@@ -53,16 +54,17 @@ abbrev pub word_at : Sources → ℕ → Text
 word_at t i = word_among t.words i
 
 -- What is known at a place of a theory: a store, what is looked up there, which references are declared, and what names
--- stand for.
+-- stand for; and the theories that stand, with this one among them.
 pub record Known : Type 1 where
   pub stored : Stored
   pub declares : Sort → Ref → Type 0
   pub lookups : Lookups
   pub names : Names
+  pub theories : Development
 
--- numbers stand for what they stood for, the same is looked up, and names stand for the same
+-- numbers stand for what they stood for, the same is looked up, names stand for the same, and the same theories stand
 pub record Grows (a b : Known) : Type 0 where
-  pub keeps : Keeps a.stored a.declares a.lookups b.stored b.declares b.lookups
+  pub keeps : Keeps a.stored a.declares a.lookups b.stored b.declares b.lookups a.theories b.theories
   pub names : b.names ≡ a.names
 
 -- a number of a type or of a term whose names are declared

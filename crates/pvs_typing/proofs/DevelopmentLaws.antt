@@ -24,7 +24,7 @@ use Rattle.pvs_typing.specs.Answers.{IsType, IsTooLarge, IsOptionKnown, tree_opt
 use Rattle.pvs_typing.specs.Development.{lookups_by, lookups_from, IsDeclaredBy, IsDeclaredFrom}
 
 -- what is declared is a reference over the development, and is of its sort there
-declared_ref : (d : Development) (s : Signature) (o : Sort) (r : Ref) → IsDeclared d s o r → IsRefOver d s r
+pub declared_ref : (d : Development) (s : Signature) (o : Sort) (r : Ref) → IsDeclared d s o r → IsRefOver d s r
 declared_ref d s o (Own n) h = tt
 declared_ref d s o (Formal n) h = tt
 declared_ref d s o (Inst th n xs) h = (sort_stands o (theory_named d th) n h.0, h.1)
@@ -41,7 +41,7 @@ sort_instance OfTerm (Some (ConstSig t body)) th xs h = tt
 sort_instance OfTerm (Some (VarSig t)) th xs h = h
 sort_instance OfTerm (Some (FormulaSig c t o)) th xs h = h
 
-declared_kind : (d : Development) (s : Signature) (o : Sort) (r : Ref) → IsDeclared d s o r → HasSort o (kind_of d s r)
+pub declared_kind : (d : Development) (s : Signature) (o : Sort) (r : Ref) → IsDeclared d s o r → HasSort o (kind_of d s r)
 declared_kind d s o (Own n) h = h
 declared_kind d s o (Formal n) h = h
 declared_kind d s o (Inst th n xs) h = sort_instance o (kind_in (theory_named d th) n) th xs h.0
@@ -74,14 +74,14 @@ is_type_by : (d : Development) (z : Option Signature) (r : Ref) → IsRefBy d z 
 is_type_by d None r h = refl
 is_type_by d (Some s) r h = ap is_type_kind (finds_kinds d s r h)
 
-definition_of_type : (k : Option Kind) → HasSort OfType k → type_body k ≡ definition k
+pub definition_of_type : (k : Option Kind) → HasSort OfType k → type_body k ≡ definition k
 definition_of_type None h = refl
 definition_of_type (Some (TypeSig b body)) h = refl
 definition_of_type (Some (ConstSig t body)) h = absurd h
 definition_of_type (Some (VarSig t)) h = refl
 definition_of_type (Some (FormulaSig c t o)) h = refl
 
-type_kind : (k : Option Kind) → HasSort OfType k → is_type_kind k ≡ true
+pub type_kind : (k : Option Kind) → HasSort OfType k → is_type_kind k ≡ true
 type_kind None h = absurd h
 type_kind (Some (TypeSig b body)) h = refl
 type_kind (Some (ConstSig t body)) h = absurd h
@@ -98,7 +98,7 @@ pub declared_is_type : (d : Development) (th : Text) (r : Ref) → IsDeclaredFro
 declared_is_type d th r h = is_type_by d (theory_named d th) r (declared_is_ref d th OfType r h) ∙ type_kind (kind_from d th r) (declared_has_sort d th OfType r h)
 
 -- the trees of what is declared mention declared things alone
-each_name : (d : Development) (s : Signature) (t : Tree) → AreDeclared d s t → EachName (IsDeclared d s) t
+pub each_name : (d : Development) (s : Signature) (t : Tree) → AreDeclared d s t → EachName (IsDeclared d s) t
 each_name d s (Leaf o) h = tt
 each_name d s (Var n) h = tt
 each_name d s (Name o r) h = h
@@ -115,13 +115,13 @@ pub record IsDeclaredType (d : Development) (z : Option Signature) (t : Tree) : 
 declared_tree : (d : Development) (s : Signature) (u t : Tree) → u ≡ t → IsTreeOver d s OfType u → IsDeclaredType d (Some s) t
 declared_tree d s u t e h = subst (IsDeclaredType d (Some s)) e (record { sort = h.sort; names = each_name d s u h.declared })
 
-kind_type : (d : Development) (s : Signature) (k : Kind) (t : Tree) → IsKindOver d s k → constant_type (Some k) ≡ Some t → IsDeclaredType d (Some s) t
+pub kind_type : (d : Development) (s : Signature) (k : Kind) (t : Tree) → IsKindOver d s k → constant_type (Some k) ≡ Some t → IsDeclaredType d (Some s) t
 kind_type d s (TypeSig b body) t h e = cc
 kind_type d s (ConstSig u body) t h e = let k : u ≡ t = cc in declared_tree d s u t k h.0
 kind_type d s (VarSig u) t h e = cc
 kind_type d s (FormulaSig c u o) t h e = cc
 
-kind_body : (d : Development) (s : Signature) (k : Kind) (t : Tree) → IsKindOver d s k → type_body (Some k) ≡ Some t → IsDeclaredType d (Some s) t
+pub kind_body : (d : Development) (s : Signature) (k : Kind) (t : Tree) → IsKindOver d s k → type_body (Some k) ≡ Some t → IsDeclaredType d (Some s) t
 kind_body d s (TypeSig b None) t h e = cc
 kind_body d s (TypeSig b (Some u)) t h e = let k : u ≡ t = cc in declared_tree d s u t k h
 kind_body d s (ConstSig u body) t h e = cc

@@ -5,6 +5,7 @@ use Rattle.pvs_base.specs.declared.code.Code.{Code}
 use Rattle.pvs_terms.specs.Tree.{Tree, Leaf, Var, Name, Bind, Join, Project, If, Ref, TName}
 use Rattle.pvs_terms.specs.declared.shape.Sort.TheVariants.{OfType, OfTerm}
 use Rattle.pvs_terms.specs.declared.shape.Binder.TheVariants.{Subtype, Function, Product, Lambda}
+use Rattle.pvs_sig.specs.Development.{Development}
 use Rattle.pvs_sig.specs.Lookups.{Lookups, type_size, IsOrdered}
 use Rattle.pvs_types.specs.Forms.{body, by_body, head_by, up_by, head, up}
 use Rattle.pvs_types.proofs.FormsLaws.{head_step, up_step, body_is}
@@ -133,9 +134,9 @@ pub known-append : (s : Stored) (P : Sort → Ref → Type 0) (o : Sort) (is : L
 known-append s P o [] i h k = (k, tt)
 known-append s P o (x ∷ is) i h k = (h.0, known-append s P o is i h.1 k)
 
-pub listed_kept : {s t : Stored} {P Q : Sort → Ref → Type 0} {l m : Lookups} (is : List ℕ) (i : ℕ) (js : List ℕ) → Keeps s P l t Q m → AreKnown s P OfType is → IsKnown s P OfType i → js ≡ is ++ i ∷ []
+pub listed_kept : {s t : Stored} {P Q : Sort → Ref → Type 0} {l m : Lookups} {D E : Development} (is : List ℕ) (i : ℕ) (js : List ℕ) → Keeps s P l t Q m D E → AreKnown s P OfType is → IsKnown s P OfType i → js ≡ is ++ i ∷ []
     → (all_at s is ++ tree_at s i ∷ []) ≡ all_at t js
 listed_kept {s} {t} {P} is i js k h n e = sym (ap (all_at t) e ∙ trees_kept OfType (is ++ i ∷ []) k (known-append s P OfType is i h n) ∙ all_at-append s is (i ∷ []))
 
-pub types_kept : {s t : Stored} {P Q : Sort → Ref → Type 0} {l m : Lookups} (is : List ℕ) (i : ℕ) (js : List ℕ) → Keeps s P l t Q m → AreKnown s P OfType is → IsKnown s P OfType i → js ≡ is ++ i ∷ [] → AreKnown t Q OfType js
+pub types_kept : {s t : Stored} {P Q : Sort → Ref → Type 0} {l m : Lookups} {D E : Development} (is : List ℕ) (i : ℕ) (js : List ℕ) → Keeps s P l t Q m D E → AreKnown s P OfType is → IsKnown s P OfType i → js ≡ is ++ i ∷ [] → AreKnown t Q OfType js
 types_kept {s} {t} {P} {Q} is i js k h n e = subst (AreKnown t Q OfType) (sym e) (all_kept OfType (is ++ i ∷ []) k (known-append s P OfType is i h n))

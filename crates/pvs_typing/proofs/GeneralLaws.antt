@@ -9,6 +9,7 @@ use Rattle.pvs_terms.specs.declared.node.Node.TheVariants as node
 use Rattle.pvs_terms.specs.declared.shape.Sort.{Sort}
 use Rattle.pvs_terms.specs.declared.shape.Sort.TheVariants.{OfType}
 use Rattle.pvs_terms.specs.Stored.{Stored, tree_at, node_tree}
+use Rattle.pvs_sig.specs.Development.{Development}
 use Rattle.pvs_sig.specs.Lookups.{Lookups, IsOrdered}
 use Rattle.pvs_types.specs.Forms.{by_body, mentions, most_by, most, small_tree}
 use Rattle.pvs_types.proofs.FormsLaws.{most_step}
@@ -120,7 +121,7 @@ known_frames-split s P fs gs f e h = go fs (subst (AreKnownFrames s P) e h)
     go [] h = (tt, h.0)
     go (g ∷ xs) h = let r = go xs h.1 in ((h.0, r.0), r.1)
 
-module _ {s t : Stored} {P Q : Sort → Ref → Type 0} {l m : Lookups} (k : Keeps s P l t Q m) where
+module _ {s t : Stored} {P Q : Sort → Ref → Type 0} {l m : Lookups} {D E : Development} (k : Keeps s P l t Q m D E) where
   frame_kept : (f : Frame) → IsKnownFrame s P f → IsKnownFrame t Q f
   frame_kept (Range a) h = known_kept OfType a k h
   frame_kept (Others n a) h = (h.0, known_kept OfType a k h.1)
@@ -157,7 +158,7 @@ pub record Descends (l : Lookups) (s : Stored) (P : Sort → Ref → Type 0) (r 
   pub result : r ≡ frames_result l s fs (most l (tree_at s i))
   pub work : frames_work l s fs + down_work l (tree_at s i) ≤ bound
 
-pub descent_goes_on : {t u : Stored} {Q R : Sort → Ref → Type 0} {l m n : Lookups} {r : Result Tree Code} {w : ℕ} (fs gs : List Frame) (i j : ℕ) (f : Option Frame) → Descends l t Q r w fs i → Keeps t Q m u R n → m ≡ l
+pub descent_goes_on : {t u : Stored} {Q R : Sort → Ref → Type 0} {l m n : Lookups} {E F : Development} {r : Result Tree Code} {w : ℕ} (fs gs : List Frame) (i j : ℕ) (f : Option Frame) → Descends l t Q r w fs i → Keeps t Q m u R n E F → m ≡ l
     → Enters m u R (tree_at t i) (record { frame = f; ty = Some j }) → gs ≡ frames_after fs f → Descends l u R r w gs j
 descent_goes_on {t} {u} {Q} {R} {l} fs gs i j None h k e x g =
     let x : Enters l u R (tree_at t i) (record { frame = None; ty = Some j }) = rw e at x in
@@ -182,7 +183,7 @@ descent_less t {u} {R} {l} i j None e x =
 descent_less t {u} {R} {l} i j (Some f) e x =
     let x : Enters l u R (tree_at t i) (record { frame = Some f; ty = Some j }) = rw e at x in omega (arith, x.less)
 
-pub descent_ends : {t u : Stored} {Q R : Sort → Ref → Type 0} {l m n : Lookups} {r : Result Tree Code} {w : ℕ} (fs gs : List Frame) (i : ℕ) (f : Option Frame) (o : Option ℕ) → Descends l t Q r w fs i → Keeps t Q m u R n → m ≡ l
+pub descent_ends : {t u : Stored} {Q R : Sort → Ref → Type 0} {l m n : Lookups} {E F : Development} {r : Result Tree Code} {w : ℕ} (fs gs : List Frame) (i : ℕ) (f : Option Frame) (o : Option ℕ) → Descends l t Q r w fs i → Keeps t Q m u R n E F → m ≡ l
     → Enters m u R (tree_at t i) (record { frame = f; ty = o }) → o ≡ None → gs ≡ frames_after fs f → Around l u R r gs i × (frames_work l u gs < w)
 descent_ends {t} {u} {Q} {R} {l} {r = r} {w} fs gs i f (Some j) h k e x z g = cc
 descent_ends {t} {u} {Q} {R} {l} {r = r} {w} fs gs i (Some f) None h k e x z g = let y : Some f ≡ None = x.known in cc
@@ -202,7 +203,7 @@ descent_ends {t} {u} {Q} {R} {l} {r = r} {w} fs gs i None None h k e x z g =
 small_fits : (t : Tree) → IsWithinLimits t → small_tree t ≡ Ok t
 small_fits t h = ap (λ b. cond b (Ok t) (Err TooLarge)) ((limits_decided t).1 h)
 
-pub frame_made : {s t : Stored} {P Q : Sort → Ref → Type 0} {l m : Lookups} (fs : List Frame) (x : Result Tree Code) (u : Tree) (i : ℕ) → Keeps s P l t Q m → AreKnownFrames s P fs → x ≡ small_tree u → Gives t Q OfType u i
+pub frame_made : {s t : Stored} {P Q : Sort → Ref → Type 0} {l m : Lookups} {D E : Development} (fs : List Frame) (x : Result Tree Code) (u : Tree) (i : ℕ) → Keeps s P l t Q m D E → AreKnownFrames s P fs → x ≡ small_tree u → Gives t Q OfType u i
     → Around l t Q (frames_result l s fs x) fs i
 frame_made {s} {t} {l = l} fs x u i k h e g = record {
   frames = frames_kept k fs h;
@@ -260,7 +261,7 @@ frame_positive l s (Range a) = omega arith
 frame_positive l s (Others k a) = omega arith
 frame_positive l s (First k b) = omega arith
 
-pub leave_less : {s t : Stored} {P Q : Sort → Ref → Type 0} {l m : Lookups} (n : Lookups) (fs : List Frame) (f : Frame) → Keeps s P l t Q m → AreKnownFrames s P fs → frames_work n t fs < frames_work n s fs + frame_work n s f
+pub leave_less : {s t : Stored} {P Q : Sort → Ref → Type 0} {l m : Lookups} {D E : Development} (n : Lookups) (fs : List Frame) (f : Frame) → Keeps s P l t Q m D E → AreKnownFrames s P fs → frames_work n t fs < frames_work n s fs + frame_work n s f
 leave_less {s} n fs f k h = rw (frames_work_same k n fs h) (omega (arith, frame_positive n s f))
 
 pub leave_fault : (l : Lookups) (s : Stored) (fs : List Frame) (x y : Result Tree Code) (e : TypeFault) → x ≡ y → IsRefusal y e → IsRefusal (frames_result l s fs x) e

@@ -8,6 +8,7 @@ use Rattle.pvs_terms.proofs.StoredLaws.{extends_trans}
 use Rattle.pvs_subst.specs.Replace.{lift, put_var, put_at, put_in}
 use Rattle.pvs_subst.specs.declared.context.Assumed.{Assumed}
 use Rattle.pvs_subst.specs.declared.context.Assumed.TheVariants as assumed
+use Rattle.pvs_sig.specs.Development.{Development}
 use Rattle.pvs_sig.specs.Lookups.{Lookups}
 use Rattle.pvs_typing.specs.Growth.{EachName, IsKnown, IsKnownItem, IsKnownContext, AreKnown, all_at, Keeps}
 
@@ -47,39 +48,40 @@ each-put_at P (If a b c) u at h k = (each-put_at P a u at h.0 k, each-put_at P b
 pub each-put_in : (P : Sort → Ref → Type 0) (t u : Tree) → EachName P t → EachName P u → EachName P (put_in t u)
 each-put_in P t u h k = each-put_at P t u 0 h k
 
-pub keeps_trans : {s t u : Stored} {P Q R : Sort → Ref → Type 0} {l m n : Lookups} → Keeps s P l t Q m → Keeps t Q m u R n → Keeps s P l u R n
+pub keeps_trans : {s t u : Stored} {P Q R : Sort → Ref → Type 0} {l m n : Lookups} {D E F : Development} → Keeps s P l t Q m D E → Keeps t Q m u R n E F → Keeps s P l u R n D F
 keeps_trans h k = record {
   stored = extends_trans h.stored k.stored;
   declared = λ o r d. k.declared o r (h.declared o r d);
   lookups = k.lookups ∙ h.lookups;
+  theories = k.theories ∙ h.theories;
 }
 
 pub extends_none : (s : Stored) → Extends s s
 extends_none s = record { nodes = λ i h. h; refs = λ i h. h; names = λ i h. h; trees = λ i h. refl; references = λ i h. refl; texts = λ i h. refl }
 
-pub keeps_none : (s : Stored) (P : Sort → Ref → Type 0) (l : Lookups) → Keeps s P l s P l
-keeps_none s P l = record { stored = extends_none s; declared = λ o r d. d; lookups = refl }
+pub keeps_none : {D : Development} (s : Stored) (P : Sort → Ref → Type 0) (l : Lookups) → Keeps s P l s P l D D
+keeps_none s P l = record { stored = extends_none s; declared = λ o r d. d; lookups = refl; theories = refl }
 
-pub known_kept : {s t : Stored} {P Q : Sort → Ref → Type 0} {l m : Lookups} (o : Sort) (i : ℕ) → Keeps s P l t Q m → IsKnown s P o i → IsKnown t Q o i
+pub known_kept : {s t : Stored} {P Q : Sort → Ref → Type 0} {l m : Lookups} {D E : Development} (o : Sort) (i : ℕ) → Keeps s P l t Q m D E → IsKnown s P o i → IsKnown t Q o i
 known_kept {s} {t} {P} {Q} o i k h = record {
   node = k.stored.nodes i h.node;
   sort = ap sort_of (k.stored.trees i h.node) ∙ h.sort;
   names = subst (EachName Q) (sym (k.stored.trees i h.node)) (each_weaker P Q (tree_at s i) k.declared h.names);
 }
 
-item_kept : {s t : Stored} {P Q : Sort → Ref → Type 0} {l m : Lookups} (x : Assumed) → Keeps s P l t Q m → IsKnownItem s P x → IsKnownItem t Q x
+item_kept : {s t : Stored} {P Q : Sort → Ref → Type 0} {l m : Lookups} {D E : Development} (x : Assumed) → Keeps s P l t Q m D E → IsKnownItem s P x → IsKnownItem t Q x
 item_kept (assumed.Bind i) k h = known_kept _ i k h
 item_kept (assumed.Hyp i) k h = known_kept _ i k h
 
-pub context_kept : {s t : Stored} {P Q : Sort → Ref → Type 0} {l m : Lookups} (g : List Assumed) → Keeps s P l t Q m → IsKnownContext s P g → IsKnownContext t Q g
+pub context_kept : {s t : Stored} {P Q : Sort → Ref → Type 0} {l m : Lookups} {D E : Development} (g : List Assumed) → Keeps s P l t Q m D E → IsKnownContext s P g → IsKnownContext t Q g
 context_kept [] k h = tt
 context_kept (x ∷ g) k h = (item_kept x k h.0, context_kept g k h.1)
 
-pub all_kept : {s t : Stored} {P Q : Sort → Ref → Type 0} {l m : Lookups} (o : Sort) (is : List ℕ) → Keeps s P l t Q m → AreKnown s P o is → AreKnown t Q o is
+pub all_kept : {s t : Stored} {P Q : Sort → Ref → Type 0} {l m : Lookups} {D E : Development} (o : Sort) (is : List ℕ) → Keeps s P l t Q m D E → AreKnown s P o is → AreKnown t Q o is
 all_kept o [] k h = tt
 all_kept o (i ∷ is) k h = (known_kept o i k h.0, all_kept o is k h.1)
 
-pub trees_kept : {s t : Stored} {P Q : Sort → Ref → Type 0} {l m : Lookups} (o : Sort) (is : List ℕ) → Keeps s P l t Q m → AreKnown s P o is → all_at t is ≡ all_at s is
+pub trees_kept : {s t : Stored} {P Q : Sort → Ref → Type 0} {l m : Lookups} {D E : Development} (o : Sort) (is : List ℕ) → Keeps s P l t Q m D E → AreKnown s P o is → all_at t is ≡ all_at s is
 trees_kept o [] k h = refl
 trees_kept o (i ∷ is) k h = ap₂ ◌∷◌ (k.stored.trees i h.0.node) (trees_kept o is k h.1)
 

@@ -12,6 +12,7 @@ use Rattle.pvs_terms.specs.Stored.{Stored, tree_at}
 use Rattle.pvs_subst.specs.Contexts.{Assumptions, context_at}
 use Rattle.pvs_subst.specs.declared.context.Assumed.{Assumed}
 use Rattle.pvs_subst.specs.declared.context.Condition.{Condition}
+use Rattle.pvs_sig.specs.Development.{Development}
 use Rattle.pvs_sig.specs.Lookups.{Lookups, IsOrdered}
 use Rattle.pvs_types.specs.Outcome.{Conditions, Outcome, Refused, Accepted, outcome_after, ◌>>=◌, pure, refuse, from_result, within_limits}
 use Rattle.pvs_typing.specs.declared.fault.TypeFault.{TypeFault}
@@ -80,8 +81,8 @@ append_none [] = refl
 append_none (x ∷ xs) = ap (λ y. x ∷ y) (append_none xs)
 
 -- a step that owes nothing, after what is owed
-pub quiet : {V A : Type 0} {value : V → A} {s u : Stored} {P S : Sort → Ref → Type 0} {l n : Lookups} {o : Outcome A} {r : Result V TypeFault} (cs : List Condition)
-    → Keeps s P l u S n → AreKnownConditions s P cs → Answers value u S [] o [] r → Answers value u S (conditions_at s cs) o cs r
+pub quiet : {V A : Type 0} {value : V → A} {s u : Stored} {P S : Sort → Ref → Type 0} {l n : Lookups} {D F : Development} {o : Outcome A} {r : Result V TypeFault} (cs : List Condition)
+    → Keeps s P l u S n D F → AreKnownConditions s P cs → Answers value u S [] o [] r → Answers value u S (conditions_at s cs) o cs r
 quiet {value = value} {s = s} {u = u} {S = S} {o = o} {r = r} cs k h j = record { is = go r j.is }
   where
     go : (q : Result _ TypeFault) → IsAnswer value u S [] o [] q → IsAnswer value u S (conditions_at s cs) o cs q
@@ -96,54 +97,54 @@ quiet {value = value} {s = s} {u = u} {S = S} {o = o} {r = r} cs k h j = record 
     go (Err e) i = i
 
 -- the same of a value that is accepted
-pub quiet_accepts : {A : Type 0} {s u : Stored} {P S : Sort → Ref → Type 0} {l n : Lookups} {o : Outcome A} {a : A} (cs : List Condition)
-    → Keeps s P l u S n → AreKnownConditions s P cs → Accepts u S [] o a [] → Accepts u S (conditions_at s cs) o a cs
+pub quiet_accepts : {A : Type 0} {s u : Stored} {P S : Sort → Ref → Type 0} {l n : Lookups} {D F : Development} {o : Outcome A} {a : A} (cs : List Condition)
+    → Keeps s P l u S n D F → AreKnownConditions s P cs → Accepts u S [] o a [] → Accepts u S (conditions_at s cs) o a cs
 quiet_accepts {u = u} {S = S} {o = o} {a = a} cs k h i =
     let j = quiet {value = λ (x : Unit {0}). a} {r = Ok tt} cs k h (record { is = i }) in j.is
 
 -- What is said of trees, contexts and look-ups where the store has grown is what was said before. `R` is that saying.
 
-pub same1 : {B : Type 0} (R : Lookups → Assumptions → Tree → B) {s t : Stored} {P Q : Sort → Ref → Type 0} {l m : Lookups} {n : Sort} (g : List Assumed) (i : ℕ)
-    → Keeps s P l t Q m → IsKnownContext s P g → IsKnown s P n i → R m (context_at t g) (tree_at t i) ≡ R l (context_at s g) (tree_at s i)
+pub same1 : {B : Type 0} (R : Lookups → Assumptions → Tree → B) {s t : Stored} {P Q : Sort → Ref → Type 0} {l m : Lookups} {D E : Development} {n : Sort} (g : List Assumed) (i : ℕ)
+    → Keeps s P l t Q m D E → IsKnownContext s P g → IsKnown s P n i → R m (context_at t g) (tree_at t i) ≡ R l (context_at s g) (tree_at s i)
 same1 R {s} {t} g i k c h = rw (k.lookups, context_same g k c, k.stored.trees i h.node) refl
 
-pub row1 : {A W B : Type 0} {value : W → B} (R : Lookups → Assumptions → Tree → A → Outcome B) {s t u : Stored} {P Q S : Sort → Ref → Type 0} {l m : Lookups} {n : Sort} {before : Conditions} {o : Outcome A} {a : A} {cs ds : List Condition} {r : Result W TypeFault} (g : List Assumed) (i : ℕ)
-    → Keeps s P l t Q m → IsKnownContext s P g → IsKnown s P n i → Accepts t Q before o a cs
+pub row1 : {A W B : Type 0} {value : W → B} (R : Lookups → Assumptions → Tree → A → Outcome B) {s t u : Stored} {P Q S : Sort → Ref → Type 0} {l m : Lookups} {D E : Development} {n : Sort} {before : Conditions} {o : Outcome A} {a : A} {cs ds : List Condition} {r : Result W TypeFault} (g : List Assumed) (i : ℕ)
+    → Keeps s P l t Q m D E → IsKnownContext s P g → IsKnown s P n i → Accepts t Q before o a cs
     → Answers value u S (conditions_at t cs) (R m (context_at t g) (tree_at t i) a) ds r
     → Answers value u S before (o >>= R l (context_at s g) (tree_at s i)) ds r
 row1 R {s} {t} {l = l} {a = a} g i k c h x j =
     answers_then (R l (context_at s g) (tree_at s i)) x (answers_as (same1 (λ l g i. R l g i a) g i k c h) j)
 
-pub row2 : {A W B : Type 0} {value : W → B} (R : Lookups → Assumptions → Tree → Tree → A → Outcome B) {s t u : Stored} {P Q S : Sort → Ref → Type 0} {l m : Lookups} {n1 n2 : Sort} {before : Conditions} {o : Outcome A} {a : A} {cs ds : List Condition} {r : Result W TypeFault} (g : List Assumed) (i1 i2 : ℕ)
-    → Keeps s P l t Q m → IsKnownContext s P g → IsKnown s P n1 i1 → IsKnown s P n2 i2 → Accepts t Q before o a cs
+pub row2 : {A W B : Type 0} {value : W → B} (R : Lookups → Assumptions → Tree → Tree → A → Outcome B) {s t u : Stored} {P Q S : Sort → Ref → Type 0} {l m : Lookups} {D E : Development} {n1 n2 : Sort} {before : Conditions} {o : Outcome A} {a : A} {cs ds : List Condition} {r : Result W TypeFault} (g : List Assumed) (i1 i2 : ℕ)
+    → Keeps s P l t Q m D E → IsKnownContext s P g → IsKnown s P n1 i1 → IsKnown s P n2 i2 → Accepts t Q before o a cs
     → Answers value u S (conditions_at t cs) (R m (context_at t g) (tree_at t i1) (tree_at t i2) a) ds r
     → Answers value u S before (o >>= R l (context_at s g) (tree_at s i1) (tree_at s i2)) ds r
 row2 R {s} {t} {m = m} {n1 = n1} {a = a} g i1 i2 k c h1 h2 x j =
     row1 (λ l g i. R l g i (tree_at s i2)) {n = n1} g i1 k c h1 x (answers_as (ap (λ y. R m (context_at t g) (tree_at t i1) y a) (k.stored.trees i2 h2.node)) j)
 
-pub row3 : {A W B : Type 0} {value : W → B} (R : Lookups → Assumptions → Tree → Tree → Tree → A → Outcome B) {s t u : Stored} {P Q S : Sort → Ref → Type 0} {l m : Lookups} {n1 n2 n3 : Sort} {before : Conditions} {o : Outcome A} {a : A} {cs ds : List Condition} {r : Result W TypeFault} (g : List Assumed) (i1 i2 i3 : ℕ)
-    → Keeps s P l t Q m → IsKnownContext s P g → IsKnown s P n1 i1 → IsKnown s P n2 i2 → IsKnown s P n3 i3 → Accepts t Q before o a cs
+pub row3 : {A W B : Type 0} {value : W → B} (R : Lookups → Assumptions → Tree → Tree → Tree → A → Outcome B) {s t u : Stored} {P Q S : Sort → Ref → Type 0} {l m : Lookups} {D E : Development} {n1 n2 n3 : Sort} {before : Conditions} {o : Outcome A} {a : A} {cs ds : List Condition} {r : Result W TypeFault} (g : List Assumed) (i1 i2 i3 : ℕ)
+    → Keeps s P l t Q m D E → IsKnownContext s P g → IsKnown s P n1 i1 → IsKnown s P n2 i2 → IsKnown s P n3 i3 → Accepts t Q before o a cs
     → Answers value u S (conditions_at t cs) (R m (context_at t g) (tree_at t i1) (tree_at t i2) (tree_at t i3) a) ds r
     → Answers value u S before (o >>= R l (context_at s g) (tree_at s i1) (tree_at s i2) (tree_at s i3)) ds r
 row3 R {s} {t} {m = m} {n1 = n1} {n2 = n2} {a = a} g i1 i2 i3 k c h1 h2 h3 x j =
     row2 (λ l g i1 i2. R l g i1 i2 (tree_at s i3)) {n1 = n1} {n2 = n2} g i1 i2 k c h1 h2 x (answers_as (ap (λ y. R m (context_at t g) (tree_at t i1) (tree_at t i2) y a) (k.stored.trees i3 h3.node)) j)
 
-pub row4 : {A W B : Type 0} {value : W → B} (R : Lookups → Assumptions → Tree → Tree → Tree → Tree → A → Outcome B) {s t u : Stored} {P Q S : Sort → Ref → Type 0} {l m : Lookups} {n1 n2 n3 n4 : Sort} {before : Conditions} {o : Outcome A} {a : A} {cs ds : List Condition} {r : Result W TypeFault} (g : List Assumed) (i1 i2 i3 i4 : ℕ)
-    → Keeps s P l t Q m → IsKnownContext s P g → IsKnown s P n1 i1 → IsKnown s P n2 i2 → IsKnown s P n3 i3 → IsKnown s P n4 i4 → Accepts t Q before o a cs
+pub row4 : {A W B : Type 0} {value : W → B} (R : Lookups → Assumptions → Tree → Tree → Tree → Tree → A → Outcome B) {s t u : Stored} {P Q S : Sort → Ref → Type 0} {l m : Lookups} {D E : Development} {n1 n2 n3 n4 : Sort} {before : Conditions} {o : Outcome A} {a : A} {cs ds : List Condition} {r : Result W TypeFault} (g : List Assumed) (i1 i2 i3 i4 : ℕ)
+    → Keeps s P l t Q m D E → IsKnownContext s P g → IsKnown s P n1 i1 → IsKnown s P n2 i2 → IsKnown s P n3 i3 → IsKnown s P n4 i4 → Accepts t Q before o a cs
     → Answers value u S (conditions_at t cs) (R m (context_at t g) (tree_at t i1) (tree_at t i2) (tree_at t i3) (tree_at t i4) a) ds r
     → Answers value u S before (o >>= R l (context_at s g) (tree_at s i1) (tree_at s i2) (tree_at s i3) (tree_at s i4)) ds r
 row4 R {s} {t} {m = m} {n1 = n1} {n2 = n2} {n3 = n3} {a = a} g i1 i2 i3 i4 k c h1 h2 h3 h4 x j =
     row3 (λ l g i1 i2 i3. R l g i1 i2 i3 (tree_at s i4)) {n1 = n1} {n2 = n2} {n3 = n3} g i1 i2 i3 k c h1 h2 h3 x (answers_as (ap (λ y. R m (context_at t g) (tree_at t i1) (tree_at t i2) (tree_at t i3) y a) (k.stored.trees i4 h4.node)) j)
 
-pub row5 : {A W B : Type 0} {value : W → B} (R : Lookups → Assumptions → Tree → Tree → Tree → Tree → Tree → A → Outcome B) {s t u : Stored} {P Q S : Sort → Ref → Type 0} {l m : Lookups} {n1 n2 n3 n4 n5 : Sort} {before : Conditions} {o : Outcome A} {a : A} {cs ds : List Condition} {r : Result W TypeFault} (g : List Assumed) (i1 i2 i3 i4 i5 : ℕ)
-    → Keeps s P l t Q m → IsKnownContext s P g → IsKnown s P n1 i1 → IsKnown s P n2 i2 → IsKnown s P n3 i3 → IsKnown s P n4 i4 → IsKnown s P n5 i5 → Accepts t Q before o a cs
+pub row5 : {A W B : Type 0} {value : W → B} (R : Lookups → Assumptions → Tree → Tree → Tree → Tree → Tree → A → Outcome B) {s t u : Stored} {P Q S : Sort → Ref → Type 0} {l m : Lookups} {D E : Development} {n1 n2 n3 n4 n5 : Sort} {before : Conditions} {o : Outcome A} {a : A} {cs ds : List Condition} {r : Result W TypeFault} (g : List Assumed) (i1 i2 i3 i4 i5 : ℕ)
+    → Keeps s P l t Q m D E → IsKnownContext s P g → IsKnown s P n1 i1 → IsKnown s P n2 i2 → IsKnown s P n3 i3 → IsKnown s P n4 i4 → IsKnown s P n5 i5 → Accepts t Q before o a cs
     → Answers value u S (conditions_at t cs) (R m (context_at t g) (tree_at t i1) (tree_at t i2) (tree_at t i3) (tree_at t i4) (tree_at t i5) a) ds r
     → Answers value u S before (o >>= R l (context_at s g) (tree_at s i1) (tree_at s i2) (tree_at s i3) (tree_at s i4) (tree_at s i5)) ds r
 row5 R {s} {t} {m = m} {n1 = n1} {n2 = n2} {n3 = n3} {n4 = n4} {a = a} g i1 i2 i3 i4 i5 k c h1 h2 h3 h4 h5 x j =
     row4 (λ l g i1 i2 i3 i4. R l g i1 i2 i3 i4 (tree_at s i5)) {n1 = n1} {n2 = n2} {n3 = n3} {n4 = n4} g i1 i2 i3 i4 k c h1 h2 h3 h4 x (answers_as (ap (λ y. R m (context_at t g) (tree_at t i1) (tree_at t i2) (tree_at t i3) (tree_at t i4) y a) (k.stored.trees i5 h5.node)) j)
 
-pub row6 : {A W B : Type 0} {value : W → B} (R : Lookups → Assumptions → Tree → Tree → Tree → Tree → Tree → Tree → A → Outcome B) {s t u : Stored} {P Q S : Sort → Ref → Type 0} {l m : Lookups} {n1 n2 n3 n4 n5 n6 : Sort} {before : Conditions} {o : Outcome A} {a : A} {cs ds : List Condition} {r : Result W TypeFault} (g : List Assumed) (i1 i2 i3 i4 i5 i6 : ℕ)
-    → Keeps s P l t Q m → IsKnownContext s P g → IsKnown s P n1 i1 → IsKnown s P n2 i2 → IsKnown s P n3 i3 → IsKnown s P n4 i4 → IsKnown s P n5 i5 → IsKnown s P n6 i6 → Accepts t Q before o a cs
+pub row6 : {A W B : Type 0} {value : W → B} (R : Lookups → Assumptions → Tree → Tree → Tree → Tree → Tree → Tree → A → Outcome B) {s t u : Stored} {P Q S : Sort → Ref → Type 0} {l m : Lookups} {D E : Development} {n1 n2 n3 n4 n5 n6 : Sort} {before : Conditions} {o : Outcome A} {a : A} {cs ds : List Condition} {r : Result W TypeFault} (g : List Assumed) (i1 i2 i3 i4 i5 i6 : ℕ)
+    → Keeps s P l t Q m D E → IsKnownContext s P g → IsKnown s P n1 i1 → IsKnown s P n2 i2 → IsKnown s P n3 i3 → IsKnown s P n4 i4 → IsKnown s P n5 i5 → IsKnown s P n6 i6 → Accepts t Q before o a cs
     → Answers value u S (conditions_at t cs) (R m (context_at t g) (tree_at t i1) (tree_at t i2) (tree_at t i3) (tree_at t i4) (tree_at t i5) (tree_at t i6) a) ds r
     → Answers value u S before (o >>= R l (context_at s g) (tree_at s i1) (tree_at s i2) (tree_at s i3) (tree_at s i4) (tree_at s i5) (tree_at s i6)) ds r
 row6 R {s} {t} {m = m} {n1 = n1} {n2 = n2} {n3 = n3} {n4 = n4} {n5 = n5} {a = a} g i1 i2 i3 i4 i5 i6 k c h1 h2 h3 h4 h5 h6 x j =

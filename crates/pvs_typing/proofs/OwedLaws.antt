@@ -8,6 +8,7 @@ use Rattle.pvs_subst.specs.Contexts.{Variable, Hypothesis, assumption_at, contex
 use Rattle.pvs_subst.specs.declared.context.Assumed.{Assumed}
 use Rattle.pvs_subst.specs.declared.context.Assumed.TheVariants as assumed
 use Rattle.pvs_subst.specs.declared.context.Condition.{Condition}
+use Rattle.pvs_sig.specs.Development.{Development}
 use Rattle.pvs_sig.specs.Lookups.{Lookups}
 use Rattle.pvs_types.specs.Outcome.{Conditions, Outcome, Refused, Accepted, outcome_after, ◌>>=◌, pure}
 use Rattle.pvs_typing.specs.declared.fault.TypeFault.{TypeFault}
@@ -41,25 +42,25 @@ accepted_then o f a h = ap (λ x. x >>= f) h ∙ after_none (f a)
 
 -- Contexts and conditions where the store grows.
 
-item_same : {s t : Stored} {P Q : Sort → Ref → Type 0} {l m : Lookups} (x : Assumed) → Keeps s P l t Q m → IsKnownItem s P x → assumption_at t x ≡ assumption_at s x
+item_same : {s t : Stored} {P Q : Sort → Ref → Type 0} {l m : Lookups} {D E : Development} (x : Assumed) → Keeps s P l t Q m D E → IsKnownItem s P x → assumption_at t x ≡ assumption_at s x
 item_same (assumed.Bind i) k h = ap Variable (k.stored.trees i h.node)
 item_same (assumed.Hyp i) k h = ap Hypothesis (k.stored.trees i h.node)
 
-pub context_same : {s t : Stored} {P Q : Sort → Ref → Type 0} {l m : Lookups} (g : List Assumed) → Keeps s P l t Q m → IsKnownContext s P g → context_at t g ≡ context_at s g
+pub context_same : {s t : Stored} {P Q : Sort → Ref → Type 0} {l m : Lookups} {D E : Development} (g : List Assumed) → Keeps s P l t Q m D E → IsKnownContext s P g → context_at t g ≡ context_at s g
 context_same [] k h = refl
 context_same (x ∷ g) k h = ap₂ ◌∷◌ (item_same x k h.0) (context_same g k h.1)
 
-condition_same : {s t : Stored} {P Q : Sort → Ref → Type 0} {l m : Lookups} (c : Condition) → Keeps s P l t Q m → IsKnownCondition s P c → condition_at t c ≡ condition_at s c
+condition_same : {s t : Stored} {P Q : Sort → Ref → Type 0} {l m : Lookups} {D E : Development} (c : Condition) → Keeps s P l t Q m D E → IsKnownCondition s P c → condition_at t c ≡ condition_at s c
 condition_same c k h = rw (context_same c.context.items k h.context, k.stored.trees c.goal h.goal.node) refl
 
-pub conditions_same : {s t : Stored} {P Q : Sort → Ref → Type 0} {l m : Lookups} (cs : List Condition) → Keeps s P l t Q m → AreKnownConditions s P cs → conditions_at t cs ≡ conditions_at s cs
+pub conditions_same : {s t : Stored} {P Q : Sort → Ref → Type 0} {l m : Lookups} {D E : Development} (cs : List Condition) → Keeps s P l t Q m D E → AreKnownConditions s P cs → conditions_at t cs ≡ conditions_at s cs
 conditions_same [] k h = refl
 conditions_same (c ∷ cs) k h = ap₂ ◌∷◌ (condition_same c k h.0) (conditions_same cs k h.1)
 
-condition_kept : {s t : Stored} {P Q : Sort → Ref → Type 0} {l m : Lookups} (c : Condition) → Keeps s P l t Q m → IsKnownCondition s P c → IsKnownCondition t Q c
+condition_kept : {s t : Stored} {P Q : Sort → Ref → Type 0} {l m : Lookups} {D E : Development} (c : Condition) → Keeps s P l t Q m D E → IsKnownCondition s P c → IsKnownCondition t Q c
 condition_kept c k h = record { context = context_kept c.context.items k h.context; goal = known_kept _ c.goal k h.goal }
 
-pub conditions_kept : {s t : Stored} {P Q : Sort → Ref → Type 0} {l m : Lookups} (cs : List Condition) → Keeps s P l t Q m → AreKnownConditions s P cs → AreKnownConditions t Q cs
+pub conditions_kept : {s t : Stored} {P Q : Sort → Ref → Type 0} {l m : Lookups} {D E : Development} (cs : List Condition) → Keeps s P l t Q m D E → AreKnownConditions s P cs → AreKnownConditions t Q cs
 conditions_kept [] k h = tt
 conditions_kept (c ∷ cs) k h = (condition_kept c k h.0, conditions_kept cs k h.1)
 
@@ -82,11 +83,11 @@ owes_then {s} {t} {before} {o} {a} {cs} {ds} {b} f h k = record {
 }
 
 -- the same where the store has grown in between
-pub owes_then_kept : {A B : Type 0} {s t u : Stored} {P Q : Sort → Ref → Type 0} {l m : Lookups} {before : Conditions} {o : Outcome A} {a : A} {cs ds : List Condition} {b : B} (f : A → Outcome B)
-    → Owes s before o a cs → Keeps s P l t Q m → AreKnownConditions s P cs → Owes u (conditions_at t cs) (f a) b ds → Owes u before (o >>= f) b ds
+pub owes_then_kept : {A B : Type 0} {s t u : Stored} {P Q : Sort → Ref → Type 0} {l m : Lookups} {D E : Development} {before : Conditions} {o : Outcome A} {a : A} {cs ds : List Condition} {b : B} (f : A → Outcome B)
+    → Owes s before o a cs → Keeps s P l t Q m D E → AreKnownConditions s P cs → Owes u (conditions_at t cs) (f a) b ds → Owes u before (o >>= f) b ds
 owes_then_kept {s} {cs} {ds} {b} f h k n j = owes_then f h (record { symbols = j.symbols; is = rw (← conditions_same cs k n) j.is })
 
-pub owes_kept : {A : Type 0} {s t : Stored} {P Q : Sort → Ref → Type 0} {l m : Lookups} {before : Conditions} {o : Outcome A} {a : A} {cs : List Condition} → Keeps s P l t Q m → AreKnownConditions s P cs → Owes s before o a cs → Owes t before o a cs
+pub owes_kept : {A : Type 0} {s t : Stored} {P Q : Sort → Ref → Type 0} {l m : Lookups} {D E : Development} {before : Conditions} {o : Outcome A} {a : A} {cs : List Condition} → Keeps s P l t Q m D E → AreKnownConditions s P cs → Owes s before o a cs → Owes t before o a cs
 owes_kept {a} {cs} k n h = record { symbols = h.symbols; is = h.is ∙ ap (λ x. Accepted a x h.symbols) (sym (conditions_same cs k n)) }
 
 -- nothing is owed

@@ -10,6 +10,7 @@ use Rattle.pvs_terms.specs.declared.node.Node.{Node}
 use Rattle.pvs_terms.specs.declared.node.Node.TheVariants as node
 use Rattle.pvs_subst.specs.Replace.{lift, put_in}
 use Rattle.pvs_subst.proofs.SortLaws.{sort_of-lift, sort_of-put_in}
+use Rattle.pvs_sig.specs.Development.{Development}
 use Rattle.pvs_sig.specs.Lookups.{Lookups}
 use Rattle.pvs_types.specs.Limits.{is_within_limits}
 use Rattle.pvs_types.specs.Outcome.{Outcome, Refused, pure, refuse, within_limits}
@@ -49,17 +50,17 @@ large_refused t h = go (is_within_limits t) refl
 pub function_fits : (f a : Tree) → IsWithinLimits (App f a) → IsWithinLimits f
 function_fits f a h = record { deep = omega (arith, h.deep); large = omega (arith, h.large); index = omega (arith, h.index) }
 
-pub gives_kept : {s t : Stored} {P Q : Sort → Ref → Type 0} {l m : Lookups} {o : Sort} {u : Tree} {i : ℕ} → Keeps s P l t Q m → Gives s P o u i → Gives t Q o u i
+pub gives_kept : {s t : Stored} {P Q : Sort → Ref → Type 0} {l m : Lookups} {D E : Development} {o : Sort} {u : Tree} {i : ℕ} → Keeps s P l t Q m D E → Gives s P o u i → Gives t Q o u i
 gives_kept {o = o} {i = i} k h = record { known = known_kept o i k h.known; tree = k.stored.trees i h.known.node ∙ h.tree; fits = h.fits }
 
 -- What is made of known trees is known.
 
-pub lifted_gives : {s t : Stored} {P Q : Sort → Ref → Type 0} {l m : Lookups} (o : Sort) (i j : ℕ) → Keeps s P l t Q m → IsKnown s P o i → Stands t (lift (tree_at s i) 1 0) j
+pub lifted_gives : {s t : Stored} {P Q : Sort → Ref → Type 0} {l m : Lookups} {D E : Development} (o : Sort) (i j : ℕ) → Keeps s P l t Q m D E → IsKnown s P o i → Stands t (lift (tree_at s i) 1 0) j
     → Gives t Q o (lift (tree_at s i) 1 0) j
 lifted_gives {s} {t} {P} {Q} o i j k h n = stands_gives t Q o (lift (tree_at s i) 1 0) j (sort_of-lift (tree_at s i) 1 0 ∙ h.sort)
     (each-lift Q (tree_at s i) 1 0 (each_weaker P Q (tree_at s i) k.declared h.names)) n
 
-pub put_gives : {s t : Stored} {P Q : Sort → Ref → Type 0} {l m : Lookups} (o : Sort) (i a j : ℕ) → Keeps s P l t Q m → IsKnown s P o i → IsKnown s P OfTerm a → Stands t (put_in (tree_at s i) (tree_at s a)) j
+pub put_gives : {s t : Stored} {P Q : Sort → Ref → Type 0} {l m : Lookups} {D E : Development} (o : Sort) (i a j : ℕ) → Keeps s P l t Q m D E → IsKnown s P o i → IsKnown s P OfTerm a → Stands t (put_in (tree_at s i) (tree_at s a)) j
     → Gives t Q o (put_in (tree_at s i) (tree_at s a)) j
 put_gives {s} {t} {P} {Q} o i a j k h u n = stands_gives t Q o (put_in (tree_at s i) (tree_at s a)) j (sort_of-put_in (tree_at s i) (tree_at s a) u.sort ∙ h.sort)
     (each-put_in Q (tree_at s i) (tree_at s a) (each_weaker P Q (tree_at s i) k.declared h.names) (each_weaker P Q (tree_at s a) k.declared u.names)) n
@@ -111,19 +112,19 @@ pub second_other_at : (s : Stored) (k : ℕ) (t : Tree) (n : Node) → t ≡ nod
 second_other_at s k t n e h = rw e (second_other s k n h)
 
 -- a tree that is made, by what it is called
-pub made_gives : {s t : Stored} {P Q : Sort → Ref → Type 0} {l m : Lookups} (o : Sort) (u v : Tree) (i : ℕ) → Keeps s P l t Q m → u ≡ v → sort_of u ≡ o → EachName P u → Stands t u i → Gives t Q o v i
+pub made_gives : {s t : Stored} {P Q : Sort → Ref → Type 0} {l m : Lookups} {D E : Development} (o : Sort) (u v : Tree) (i : ℕ) → Keeps s P l t Q m D E → u ≡ v → sort_of u ≡ o → EachName P u → Stands t u i → Gives t Q o v i
 made_gives {s} {t} {P} {Q} o u v i k e h n d = subst (λ x. Gives t Q o x i) e (stands_gives t Q o u i h (each_weaker P Q u k.declared n) d)
 
 -- a term under one more variable, applied to it
-pub applied_sorts : (s : Stored) {t u : Stored} (P : Sort → Ref → Type 0) {Q R : Sort → Ref → Type 0} {m n : Lookups} (i f v : ℕ) → Keeps t Q m u R n → IsKnown s P OfTerm i → Stands t (lift (tree_at s i) 1 0) f → Stands u (Var 0) v
+pub applied_sorts : (s : Stored) {t u : Stored} (P : Sort → Ref → Type 0) {Q R : Sort → Ref → Type 0} {m n : Lookups} {E F : Development} (i f v : ℕ) → Keeps t Q m u R n E F → IsKnown s P OfTerm i → Stands t (lift (tree_at s i) 1 0) f → Stands u (Var 0) v
     → IsTerm (tree_at u f) × IsTerm (tree_at u v)
 applied_sorts s P i f v k h a b = (ap sort_of (k.stored.trees f a.node ∙ a.tree) ∙ sort_of-lift (tree_at s i) 1 0 ∙ h.sort, ap sort_of b.tree)
 
-applied_tree : (s : Stored) {t u : Stored} {Q R : Sort → Ref → Type 0} {m n : Lookups} (i f v : ℕ) → Keeps t Q m u R n → Stands t (lift (tree_at s i) 1 0) f → Stands u (Var 0) v
+applied_tree : (s : Stored) {t u : Stored} {Q R : Sort → Ref → Type 0} {m n : Lookups} {E F : Development} (i f v : ℕ) → Keeps t Q m u R n E F → Stands t (lift (tree_at s i) 1 0) f → Stands u (Var 0) v
     → App (tree_at u f) (tree_at u v) ≡ App (lift_one (tree_at s i)) (Var 0)
 applied_tree s i f v k a b = rw (k.stored.trees f a.node, a.tree, b.tree) refl
 
-pub applied_gives : {s t u w : Stored} {P Q R S : Sort → Ref → Type 0} {l m n o : Lookups} (i f v r : ℕ) → Keeps s P l t Q m → Keeps t Q m u R n → Keeps u R n w S o → IsKnown s P OfTerm i
+pub applied_gives : {s t u w : Stored} {P Q R S : Sort → Ref → Type 0} {l m n o : Lookups} {D E F G : Development} (i f v r : ℕ) → Keeps s P l t Q m D E → Keeps t Q m u R n E F → Keeps u R n w S o F G → IsKnown s P OfTerm i
     → Stands t (lift (tree_at s i) 1 0) f → Stands u (Var 0) v → Stands w (App (tree_at u f) (tree_at u v)) r → Gives w S OfTerm (App (lift_one (tree_at s i)) (Var 0)) r
 applied_gives {s} {w = w} {P} {S = S} i f v r k1 k2 k3 h a b c =
     let names : EachName P (lift (tree_at s i) 1 0) = each-lift P (tree_at s i) 1 0 h.names in
@@ -134,7 +135,7 @@ applied_gives {s} {w = w} {P} {S = S} i f v r k1 k2 k3 h a b c =
 pub lifted_large : (t : Tree) → (IsWithinLimits (lift t 1 0) → ⊥) → within_limits (App (lift_one t) (Var 0)) ≡ Refused TooLarge
 lifted_large t h = large_refused (App (lift_one t) (Var 0)) (λ k. h (function_fits (lift_one t) (Var 0) k))
 
-pub applied_large : (s : Stored) {t u : Stored} {Q R : Sort → Ref → Type 0} {m n : Lookups} (i f v : ℕ) → Keeps t Q m u R n → Stands t (lift (tree_at s i) 1 0) f → Stands u (Var 0) v
+pub applied_large : (s : Stored) {t u : Stored} {Q R : Sort → Ref → Type 0} {m n : Lookups} {E F : Development} (i f v : ℕ) → Keeps t Q m u R n E F → Stands t (lift (tree_at s i) 1 0) f → Stands u (Var 0) v
     → (IsWithinLimits (App (tree_at u f) (tree_at u v)) → ⊥) → within_limits (App (lift_one (tree_at s i)) (Var 0)) ≡ Refused TooLarge
 applied_large s i f v k a b h = large_refused (App (lift_one (tree_at s i)) (Var 0)) (λ j. h (subst IsWithinLimits (sym (applied_tree s i f v k a b)) j))
 

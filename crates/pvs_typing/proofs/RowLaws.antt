@@ -31,6 +31,7 @@ use Rattle.pvs_typing.proofs.GrowthLaws.{each-lift}
 use Rattle.pvs_typing.proofs.PartLaws.{fits_within, made_gives}
 use Rattle.pvs_terms.specs.Tree.{Tree, True, False, TPair, IsWithinLimits}
 use Rattle.pvs_subst.specs.Contexts.{Assumptions}
+use Rattle.pvs_sig.specs.Development.{Development}
 use Rattle.pvs_sig.specs.Lookups.{Lookups}
 use Rattle.pvs_types.specs.Outcome.{Outcome, Refused, Accepted, outcome_after, ◌>>=◌, pure, from_result}
 use Rattle.pvs_types.specs.Forms.{up, first_among}
@@ -111,7 +112,7 @@ variable_some s g n i e = go (binder_type (context_at s g) n) (binder_tree s g n
     go : (x : Option Tree) → x ≡ Some (tree_at s i) → (from_option Unknown (lift_option (suc n) x) >>= within_limits) ≡ within_limits (lift (tree_at s i) (n + 1) 0)
     go x h = rw (h, add-one) (after_none (within_limits (lift (tree_at s i) (suc n) 0)))
 
-pub lifted_by_gives : {s t : Stored} {P Q : Sort → Ref → Type 0} {l m : Lookups} (by i j : ℕ) → Keeps s P l t Q m → IsKnown s P OfType i → Stands t (lift (tree_at s i) by 0) j → Gives t Q OfType (lift (tree_at s i) by 0) j
+pub lifted_by_gives : {s t : Stored} {P Q : Sort → Ref → Type 0} {l m : Lookups} {D E : Development} (by i j : ℕ) → Keeps s P l t Q m D E → IsKnown s P OfType i → Stands t (lift (tree_at s i) by 0) j → Gives t Q OfType (lift (tree_at s i) by 0) j
 lifted_by_gives {s} {P = P} by i j k h n = made_gives OfType (lift (tree_at s i) by 0) (lift (tree_at s i) by 0) j k refl (sort_of-lift (tree_at s i) by 0 ∙ h.sort) (each-lift P (tree_at s i) by 0 h.names) n
 
 -- The two sides of a FORALL.

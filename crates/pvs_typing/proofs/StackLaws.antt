@@ -7,6 +7,7 @@ use Rattle.pvs_terms.specs.Stored.{Stored, tree_at}
 use Rattle.pvs_subst.specs.Contexts.{context_at}
 use Rattle.pvs_subst.specs.declared.context.Condition.{Condition}
 use Rattle.pvs_subst.specs.declared.context.Context.{Context}
+use Rattle.pvs_sig.specs.Development.{Development}
 use Rattle.pvs_sig.specs.Lookups.{Lookups}
 use Rattle.pvs_types.specs.Outcome.{Conditions, Outcome, Refused, Accepted, outcome_after, ◌>>◌, pure}
 use Rattle.pvs_types.specs.Coerce.{coerce}
@@ -98,7 +99,7 @@ loop_starts l s P f g a b c cs e h k = record {
         append_none [] = refl
         append_none (x ∷ xs) = ap (λ y. x ∷ y) (append_none xs)
 
-pub loop_goes_on : {t u : Stored} {Q R : Sort → Ref → Type 0} {l m n : Lookups} {o : Outcome (Unit {0})} (cs ds : List Condition) (xs ts us : List Task) (x : Task) (y : Next) → Leaves l t Q o cs ts → ts ≡ xs ++ x ∷ [] → m ≡ l → Keeps t Q m u R n
+pub loop_goes_on : {t u : Stored} {Q R : Sort → Ref → Type 0} {l m n : Lookups} {E F : Development} {o : Outcome (Unit {0})} (cs ds : List Condition) (xs ts us : List Task) (x : Task) (y : Next) → Leaves l t Q o cs ts → ts ≡ xs ++ x ∷ [] → m ≡ l → Keeps t Q m u R n E F
     → Follows m u R (task_outcome m t x) (task_work m t x) y → ds ≡ conditions_after cs y → us ≡ tasks_after xs y → Leaves l u R o ds us
 loop_goes_on {t} {u} {Q} {R} {l} {o = o} cs ds xs ts us x y h e i k f c d =
     let known = known_split t Q xs x (subst (AreKnownTasks t Q) e h.tasks) in
@@ -111,7 +112,7 @@ loop_goes_on {t} {u} {Q} {R} {l} {o = o} cs ds xs ts us x y h e i k f c d =
       same = rw (c, d) (h.same ∙ ap (λ z. outcome_after (conditions_at t cs) [] (stack_outcome l t z (pure tt))) e ∙ ap (outcome_after (conditions_at t cs) []) (stack_last l t xs x (pure tt)) ∙ sym now ∙ outcome_added l u cs xs y);
     }
 
-pub loop_less : {t u : Stored} {Q R : Sort → Ref → Type 0} {l m n : Lookups} {o : Outcome (Unit {0})} (cs : List Condition) (xs ts us : List Task) (x : Task) (y : Next) → Leaves l t Q o cs ts → ts ≡ xs ++ x ∷ [] → m ≡ l → Keeps t Q m u R n
+pub loop_less : {t u : Stored} {Q R : Sort → Ref → Type 0} {l m n : Lookups} {E F : Development} {o : Outcome (Unit {0})} (cs : List Condition) (xs ts us : List Task) (x : Task) (y : Next) → Leaves l t Q o cs ts → ts ≡ xs ++ x ∷ [] → m ≡ l → Keeps t Q m u R n E F
     → Follows m u R (task_outcome m t x) (task_work m t x) y → us ≡ tasks_after xs y → stack_work l u us < stack_work l t ts
 loop_less {t} {u} {Q} {R} {l} cs xs ts us x y h e i k f d =
     let known = known_split t Q xs x (subst (AreKnownTasks t Q) e h.tasks) in

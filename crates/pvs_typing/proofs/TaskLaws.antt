@@ -16,6 +16,7 @@ use Rattle.pvs_subst.specs.Replace.{put_in}
 use Rattle.pvs_subst.specs.Contexts.{Assumptions, Variable, context_at}
 use Rattle.pvs_subst.specs.declared.context.Assumed.TheVariants as assumed
 use Rattle.pvs_subst.specs.declared.context.Context.{Context}
+use Rattle.pvs_sig.specs.Development.{Development}
 use Rattle.pvs_sig.specs.Lookups.{Lookups, type_size, IsOrdered}
 use Rattle.pvs_types.specs.Outcome.{Outcome, Refused, Accepted, outcome_after, ◌>>=◌, ◌>>◌, pure, refuse, owe, from_result, within_limits}
 use Rattle.pvs_types.specs.Forms.{body, by_body, head, up, is_among}
@@ -92,7 +93,7 @@ fault_as o u e h k = rw h k
 
 -- Tasks where the store grows.
 
-module _ {s t : Stored} {P Q : Sort → Ref → Type 0} {l m : Lookups} (k : Keeps s P l t Q m) where
+module _ {s t : Stored} {P Q : Sort → Ref → Type 0} {l m : Lookups} {D E : Development} (k : Keeps s P l t Q m D E) where
   pub coercion_kept : (g : Context) (a b c : ℕ) → IsKnownCoercion s P g a b c → IsKnownCoercion t Q g a b c
   coercion_kept g a b c h = record {
     context = context_kept g.items k h.context;
@@ -193,7 +194,7 @@ same_context g h e = ap (λ x. record { items = x }) e
 pub name_without : (l : Lookups) (g : Assumptions) (t b : Tree) (r : Ref) → body l r ≡ Ok None → coerce_to l (coerce l) g t b (TName r) ≡ head_outcome l b (TName r)
 name_without l g t b r h = result_then (body l r) (by_body (coerce l g t b) (head_outcome l b (TName r))) None h
 
-pub name_follows : {s t : Stored} {P Q : Sort → Ref → Type 0} {l m : Lookups} (g : Context) (a b c d : ℕ) (r : Ref) → IsOrdered l → Keeps s P l t Q m → IsKnownCoercion s P g a b c → IsKnown t Q OfType d
+pub name_follows : {s t : Stored} {P Q : Sort → Ref → Type 0} {l m : Lookups} {D E : Development} (g : Context) (a b c d : ℕ) (r : Ref) → IsOrdered l → Keeps s P l t Q m D E → IsKnownCoercion s P g a b c → IsKnown t Q OfType d
     → body l r ≡ Ok (Some (tree_at t d)) → Follows l t Q (coerce_to l (coerce l) (context_at s g.items) (tree_at s a) (tree_at s b) (TName r)) (coercion_work l (tree_at s b) (TName r)) (One (Coerce g a b d))
 name_follows {s} {t} {P} {Q} {l} g a b c d r ordered k h j e =
     let q = ordered r (tree_at t d) (body_is l r (Some (tree_at t d)) e) in
@@ -217,21 +218,21 @@ subtype_follows l s P f g a b c p e h j = subst (λ x. Follows l s P (coerce_to 
       less = omega (arith, bound_less (type_size l.rank (tree_at s b) + type_size l.rank (tree_at s c)) (type_size l.rank (tree_at s b) + suc (type_size l.rank (tree_at s c))) (omega arith));
     })
 
-pub name_done : {s t : Stored} {P Q : Sort → Ref → Type 0} {l m : Lookups} (u : Stored) (R : Sort → Ref → Type 0) (g : Assumptions) (a : Tree) (b d : ℕ) (r : Ref) (o : Option ℕ) → Keeps s P l t Q m → IsKnown s P OfType b → IsKnown s P OfType d
+pub name_done : {s t : Stored} {P Q : Sort → Ref → Type 0} {l m : Lookups} {D E : Development} (u : Stored) (R : Sort → Ref → Type 0) (g : Assumptions) (a : Tree) (b d : ℕ) (r : Ref) (o : Option ℕ) → Keeps s P l t Q m D E → IsKnown s P OfType b → IsKnown s P OfType d
     → tree_at s d ≡ TName r → o ≡ None → body l r ≡ Ok (tree_option t o) → head_outcome m (tree_at t b) (tree_at t d) ≡ pure tt
     → Follows l u R (coerce_to l (coerce l) g a (tree_at s b) (TName r)) (coercion_work l (tree_at s b) (TName r)) Done
 name_done {s} {t} {l = l} u R g a b d r o k h j e n x y =
     let z : head_outcome l (tree_at s b) (TName r) ≡ pure tt = rw (← k.lookups, ← k.stored.trees b h.node, ← e, ← k.stored.trees d j.node) y in
     done_follows l u R (coerce_to l (coerce l) g a (tree_at s b) (TName r)) (tree_at s b) (TName r) (name_without l g a (tree_at s b) r (x ∙ ap (λ q. Ok (tree_option t q)) n) ∙ z)
 
-pub name_fault : {s t : Stored} {P Q : Sort → Ref → Type 0} {l m : Lookups} (g : Assumptions) (a : Tree) (b d : ℕ) (r : Ref) (o : Option ℕ) (x : TypeFault) → Keeps s P l t Q m → IsKnown s P OfType b → IsKnown s P OfType d
+pub name_fault : {s t : Stored} {P Q : Sort → Ref → Type 0} {l m : Lookups} {D E : Development} (g : Assumptions) (a : Tree) (b d : ℕ) (r : Ref) (o : Option ℕ) (x : TypeFault) → Keeps s P l t Q m D E → IsKnown s P OfType b → IsKnown s P OfType d
     → tree_at s d ≡ TName r → o ≡ None → body l r ≡ Ok (tree_option t o) → IsFault (head_outcome m (tree_at t b) (tree_at t d)) x → IsFault (coerce_to l (coerce l) g a (tree_at s b) (TName r)) x
 name_fault {s} {t} {l = l} g a b d r o x k h j e n y f =
     let z : IsFault (head_outcome l (tree_at s b) (TName r)) x = rw (← k.lookups, ← k.stored.trees b h.node, ← e, ← k.stored.trees d j.node) f in
     fault_as _ _ x (name_without l g a (tree_at s b) r (y ∙ ap (λ q. Ok (tree_option t q)) n)) z
 
 -- between tuple types
-pub pairs_follow : {s t : Stored} {P Q : Sort → Ref → Type 0} {l m : Lookups} (f g : Context) (n a x b1 a1 b2 a2 : ℕ) → Keeps s P l t Q m → f.items ≡ g.items → 2 ≤ n
+pub pairs_follow : {s t : Stored} {P Q : Sort → Ref → Type 0} {l m : Lookups} {D E : Development} (f g : Context) (n a x b1 a1 b2 a2 : ℕ) → Keeps s P l t Q m D E → f.items ≡ g.items → 2 ≤ n
     → IsKnownCoercion s P g a b1 a1 → IsKnownCoercion s P g a b2 a2 → Gives t Q OfTerm (first_part n (tree_at s a)) x
     → Follows l t Q (coerce_parts (coerce l) (context_at s g.items) (tree_at s a) n (tree_at s b1) (tree_at s b2) (tree_at s a1) (tree_at s a2))
     (coercion_work l (TPair n (tree_at s b1) (tree_at s b2)) (TPair n (tree_at s a1) (tree_at s a2))) (Two (Coerce f x b1 a1) (Second g n a x b2 a2))
@@ -287,12 +288,12 @@ pub follows_under : {l m : Lookups} {s : Stored} {P : Sort → Ref → Type 0} {
 follows_under {s = s} {P} {u = u} {w = w} {x = x} e h j k = subst (λ y. Follows y s P u w x) e (follows_as h j k)
 
 -- the terms and types of a coercion between tuple types, in the store of the head
-pub parts_same : {s t : Stored} {P Q : Sort → Ref → Type 0} {l m : Lookups} (g : Context) (n a b1 b2 a1 a2 : ℕ) → Keeps s P l t Q m → IsKnownContext s P g.items → IsKnown s P OfTerm a → IsKnown s P OfType a1 → IsKnown s P OfType a2
+pub parts_same : {s t : Stored} {P Q : Sort → Ref → Type 0} {l m : Lookups} {D E : Development} (g : Context) (n a b1 b2 a1 a2 : ℕ) → Keeps s P l t Q m D E → IsKnownContext s P g.items → IsKnown s P OfTerm a → IsKnown s P OfType a1 → IsKnown s P OfType a2
     → coerce_parts (coerce m) (context_at t g.items) (tree_at t a) n (tree_at t b1) (tree_at t b2) (tree_at t a1) (tree_at t a2)
     ≡ coerce_parts (coerce l) (context_at s g.items) (tree_at s a) n (tree_at t b1) (tree_at t b2) (tree_at s a1) (tree_at s a2)
 parts_same g n a b1 b2 a1 a2 k c x y z = rw (k.lookups, context_same g.items k c, k.stored.trees a x.node, k.stored.trees a1 y.node, k.stored.trees a2 z.node) refl
 
-pub pair_follows : {s t : Stored} {P Q : Sort → Ref → Type 0} {l m : Lookups} (u : Stored) (R : Sort → Ref → Type 0) (g : Context) (n a b f b1 b2 a1 a2 : ℕ) (x : Next) → IsOrdered l → Keeps s P l t Q m → IsKnownCoercion s P g a b a1 → IsKnown s P OfType a2
+pub pair_follows : {s t : Stored} {P Q : Sort → Ref → Type 0} {l m : Lookups} {D E : Development} (u : Stored) (R : Sort → Ref → Type 0) (g : Context) (n a b f b1 b2 a1 a2 : ℕ) (x : Next) → IsOrdered l → Keeps s P l t Q m D E → IsKnownCoercion s P g a b a1 → IsKnown s P OfType a2
     → head l (tree_at s b) ≡ Ok (tree_at t f) → tree_at t f ≡ TPair n (tree_at t b1) (tree_at t b2)
     → Follows m u R (coerce_parts (coerce m) (context_at t g.items) (tree_at t a) n (tree_at t b1) (tree_at t b2) (tree_at t a1) (tree_at t a2)) (coercion_work m (TPair n (tree_at t b1) (tree_at t b2)) (TPair n (tree_at t a1) (tree_at t a2))) x
     → Follows l u R (coerce_to l (coerce l) (context_at s g.items) (tree_at s a) (tree_at s b) (TPair n (tree_at s a1) (tree_at s a2))) (coercion_work l (tree_at s b) (TPair n (tree_at s a1) (tree_at s a2))) x
@@ -303,7 +304,7 @@ pair_follows {s} {t} {l = l} {m} u R g n a b f b1 b2 a1 a2 x ordered k h j e i y
     (rw (k.stored.trees a1 h.to.node, k.stored.trees a2 j.node) (head_work l ordered (tree_at s b) (TPair n (tree_at t b1) (tree_at t b2)) (TPair n (tree_at s a1) (tree_at s a2)) d)) in
     follows_under k.lookups y (parts_same g n a b1 b2 a1 a2 k h.context h.term h.to j ∙ sym (pair_case l (context_at s g.items) (tree_at s a) (tree_at s b) n (tree_at t b1) (tree_at t b2) (tree_at s a1) (tree_at s a2) d)) w
 
-pub pair_fault : {s t : Stored} {P Q : Sort → Ref → Type 0} {l m : Lookups} (g : Context) (n a b f b1 b2 a1 a2 : ℕ) (x : TypeFault) → Keeps s P l t Q m → IsKnownCoercion s P g a b a1 → IsKnown s P OfType a2
+pub pair_fault : {s t : Stored} {P Q : Sort → Ref → Type 0} {l m : Lookups} {D E : Development} (g : Context) (n a b f b1 b2 a1 a2 : ℕ) (x : TypeFault) → Keeps s P l t Q m D E → IsKnownCoercion s P g a b a1 → IsKnown s P OfType a2
     → head l (tree_at s b) ≡ Ok (tree_at t f) → tree_at t f ≡ TPair n (tree_at t b1) (tree_at t b2)
     → IsFault (coerce_parts (coerce m) (context_at t g.items) (tree_at t a) n (tree_at t b1) (tree_at t b2) (tree_at t a1) (tree_at t a2)) x
     → IsFault (coerce_to l (coerce l) (context_at s g.items) (tree_at s a) (tree_at s b) (TPair n (tree_at s a1) (tree_at s a2))) x
@@ -328,7 +329,7 @@ application_follows {s} l g a d1 d2 r1 r2 h1 h2 e =
       );
     }
 
-pub domains_follow : {s t u : Stored} {P Q R : Sort → Ref → Type 0} {l m n : Lookups} (f1 f2 g : Context) (a d1 d2 r1 r2 c1 c2 v : ℕ) → Keeps s P l t Q m → Keeps t Q m u R n → f1.items ≡ assumed.Bind d1 ∷ g.items → f2.items ≡ assumed.Bind d2 ∷ g.items
+pub domains_follow : {s t u : Stored} {P Q R : Sort → Ref → Type 0} {l m n : Lookups} {D E F : Development} (f1 f2 g : Context) (a d1 d2 r1 r2 c1 c2 v : ℕ) → Keeps s P l t Q m D E → Keeps t Q m u R n E F → f1.items ≡ assumed.Bind d1 ∷ g.items → f2.items ≡ assumed.Bind d2 ∷ g.items
     → IsKnownCoercion s P g a d1 d2 → IsKnownCoercion s P g a r1 r2 → tree_eq (tree_at s d1) (tree_at s d2) ≡ false
     → Gives t Q OfType (lift_one (tree_at s d1)) c1 → Gives t Q OfType (lift_one (tree_at s d2)) c2 → Gives u R OfTerm (Var 0) v
     → Follows l u R (coerce_function (coerce l) (context_at s g.items) (tree_at s a) (tree_at s d2) (tree_at s r2) (TFun (tree_at s d1) (tree_at s r1)))
@@ -375,12 +376,12 @@ function_case : (l : Lookups) (g : Assumptions) (t b : Tree) (b1 b2 a1 a2 : Tree
     → coerce_to l (coerce l) g t b (TFun a1 a2) ≡ coerce_function (coerce l) g t a1 a2 (TFun b1 b2)
 function_case l g t b b1 b2 a1 a2 h = result_then (head l b) (coerce_function (coerce l) g t a1 a2) (TFun b1 b2) h
 
-function_same : {s t : Stored} {P Q : Sort → Ref → Type 0} {l m : Lookups} (g : Context) (a b1 b2 a1 a2 : ℕ) → Keeps s P l t Q m → IsKnownContext s P g.items → IsKnown s P OfTerm a → IsKnown s P OfType a1 → IsKnown s P OfType a2
+function_same : {s t : Stored} {P Q : Sort → Ref → Type 0} {l m : Lookups} {D E : Development} (g : Context) (a b1 b2 a1 a2 : ℕ) → Keeps s P l t Q m D E → IsKnownContext s P g.items → IsKnown s P OfTerm a → IsKnown s P OfType a1 → IsKnown s P OfType a2
     → coerce_function (coerce m) (context_at t g.items) (tree_at t a) (tree_at t a1) (tree_at t a2) (TFun (tree_at t b1) (tree_at t b2))
     ≡ coerce_function (coerce l) (context_at s g.items) (tree_at s a) (tree_at s a1) (tree_at s a2) (TFun (tree_at t b1) (tree_at t b2))
 function_same g a b1 b2 a1 a2 k c x y z = rw (k.lookups, context_same g.items k c, k.stored.trees a x.node, k.stored.trees a1 y.node, k.stored.trees a2 z.node) refl
 
-pub function_follows : {s t : Stored} {P Q : Sort → Ref → Type 0} {l m : Lookups} (u : Stored) (R : Sort → Ref → Type 0) (g : Context) (a b f b1 b2 a1 a2 : ℕ) (x : Next) → IsOrdered l → Keeps s P l t Q m → IsKnownCoercion s P g a b a1 → IsKnown s P OfType a2
+pub function_follows : {s t : Stored} {P Q : Sort → Ref → Type 0} {l m : Lookups} {D E : Development} (u : Stored) (R : Sort → Ref → Type 0) (g : Context) (a b f b1 b2 a1 a2 : ℕ) (x : Next) → IsOrdered l → Keeps s P l t Q m D E → IsKnownCoercion s P g a b a1 → IsKnown s P OfType a2
     → head l (tree_at s b) ≡ Ok (tree_at t f) → tree_at t f ≡ TFun (tree_at t b1) (tree_at t b2)
     → Follows m u R (coerce_function (coerce m) (context_at t g.items) (tree_at t a) (tree_at t a1) (tree_at t a2) (TFun (tree_at t b1) (tree_at t b2))) (coercion_work m (TFun (tree_at t b1) (tree_at t b2)) (TFun (tree_at t a1) (tree_at t a2))) x
     → Follows l u R (coerce_to l (coerce l) (context_at s g.items) (tree_at s a) (tree_at s b) (TFun (tree_at s a1) (tree_at s a2))) (coercion_work l (tree_at s b) (TFun (tree_at s a1) (tree_at s a2))) x
@@ -391,7 +392,7 @@ function_follows {s} {t} {l = l} {m} u R g a b f b1 b2 a1 a2 x ordered k h j e i
     (rw (k.stored.trees a1 h.to.node, k.stored.trees a2 j.node) (head_work l ordered (tree_at s b) (TFun (tree_at t b1) (tree_at t b2)) (TFun (tree_at s a1) (tree_at s a2)) d)) in
     follows_under k.lookups y (function_same g a b1 b2 a1 a2 k h.context h.term h.to j ∙ sym (function_case l (context_at s g.items) (tree_at s a) (tree_at s b) (tree_at t b1) (tree_at t b2) (tree_at s a1) (tree_at s a2) d)) w
 
-pub function_fault : {s t : Stored} {P Q : Sort → Ref → Type 0} {l m : Lookups} (g : Context) (a b f b1 b2 a1 a2 : ℕ) (x : TypeFault) → Keeps s P l t Q m → IsKnownCoercion s P g a b a1 → IsKnown s P OfType a2
+pub function_fault : {s t : Stored} {P Q : Sort → Ref → Type 0} {l m : Lookups} {D E : Development} (g : Context) (a b f b1 b2 a1 a2 : ℕ) (x : TypeFault) → Keeps s P l t Q m D E → IsKnownCoercion s P g a b a1 → IsKnown s P OfType a2
     → head l (tree_at s b) ≡ Ok (tree_at t f) → tree_at t f ≡ TFun (tree_at t b1) (tree_at t b2)
     → IsFault (coerce_function (coerce m) (context_at t g.items) (tree_at t a) (tree_at t a1) (tree_at t a2) (TFun (tree_at t b1) (tree_at t b2))) x
     → IsFault (coerce_to l (coerce l) (context_at s g.items) (tree_at s a) (tree_at s b) (TFun (tree_at s a1) (tree_at s a2))) x
@@ -399,7 +400,7 @@ function_fault {s} {t} {l = l} g a b f b1 b2 a1 a2 x k h j e i y =
     fault_as _ _ x (function_case l (context_at s g.items) (tree_at s a) (tree_at s b) (tree_at t b1) (tree_at t b2) (tree_at s a1) (tree_at s a2) (e ∙ ap (λ z. Ok z) i) ∙ sym (function_same g a b1 b2 a1 a2 k h.context h.term h.to j)) y
 
 -- the predicate of a subtype
-pub satisfy_follows : {s t : Stored} {P Q : Sort → Ref → Type 0} {l m : Lookups} (n : Lookups) (g : Context) (p a goal : ℕ) → Keeps s P l t Q m → IsKnownContext s P g.items → IsKnown s P OfTerm p → IsKnown s P OfTerm a
+pub satisfy_follows : {s t : Stored} {P Q : Sort → Ref → Type 0} {l m : Lookups} {D E : Development} (n : Lookups) (g : Context) (p a goal : ℕ) → Keeps s P l t Q m D E → IsKnownContext s P g.items → IsKnown s P OfTerm p → IsKnown s P OfTerm a
     → Stands t (put_in (tree_at s p) (tree_at s a)) goal
     → Follows n t Q (satisfy_outcome (context_at s g.items) (tree_at s p) (tree_at s a)) 1 (Owe (record { context = g; goal = goal }))
 satisfy_follows {s} {t} {P} {Q} n g p a goal k c x y h =
@@ -412,7 +413,7 @@ satisfy_follows {s} {t} {P} {Q} n g p a goal k c x y h =
     }
 
 -- the second component
-pub second_follows : {s t u : Stored} {P Q R : Sort → Ref → Type 0} {l m n : Lookups} (g : Context) (j a f b c x y z : ℕ) → Keeps s P l t Q m → Keeps t Q m u R n → IsKnownCoercion s P g a b c → IsKnown s P OfTerm f
+pub second_follows : {s t u : Stored} {P Q R : Sort → Ref → Type 0} {l m n : Lookups} {D E F : Development} (g : Context) (j a f b c x y z : ℕ) → Keeps s P l t Q m D E → Keeps t Q m u R n E F → IsKnownCoercion s P g a b c → IsKnown s P OfTerm f
     → Gives t Q OfTerm (second_part j (tree_at s a)) x → Gives u R OfType (put_in (tree_at t b) (tree_at t f)) y → Gives u R OfType (put_in (tree_at t c) (tree_at t f)) z
     → Follows l u R (second_outcome l (context_at s g.items) (tree_at s a) j (tree_at s f) (tree_at s b) (tree_at s c)) (suc (coercion_work l (tree_at s b) (tree_at s c))) (One (Coerce g x y z))
 second_follows {s} {t} {u} {P} {Q} {R} {l} g j a f b c x y z k1 k2 h i vx vy vz =
@@ -433,7 +434,7 @@ second_follows {s} {t} {u} {P} {Q} {R} {l} g j a f b c x y z k1 k2 h i vx vy vz 
       less = rw (vy.tree, vz.tree, eb, ec, type_size-put_in l.rank (tree_at s b) (tree_at s f) i.sort, type_size-put_in l.rank (tree_at s c) (tree_at s f) i.sort) (omega arith);
     }
 
-pub second_fault : {s t : Stored} {P Q : Sort → Ref → Type 0} {l m : Lookups} (n : Lookups) (g : Assumptions) (j a f b c x : ℕ) (e : TypeFault) → Keeps s P l t Q m → IsKnown s P OfTerm f → IsKnown s P OfType b → IsKnown s P OfType c
+pub second_fault : {s t : Stored} {P Q : Sort → Ref → Type 0} {l m : Lookups} {D E : Development} (n : Lookups) (g : Assumptions) (j a f b c x : ℕ) (e : TypeFault) → Keeps s P l t Q m D E → IsKnown s P OfTerm f → IsKnown s P OfType b → IsKnown s P OfType c
     → Gives t Q OfTerm (second_part j (tree_at s a)) x → IsFault (both_within (put_in (tree_at t b) (tree_at t f)) (put_in (tree_at t c) (tree_at t f))) e
     → IsFault (second_outcome n g (tree_at s a) j (tree_at s f) (tree_at s b) (tree_at s c)) e
 second_fault {s} n g j a f b c x fault.Memory k h i o v r = tt
@@ -449,7 +450,7 @@ second_fault {s} {t} n g j a f b c x (fault.Refused q) k h i o v r =
     ∙ both_refused (within_limits tb) (within_limits tc) (go tx) q w
 
 -- the application
-pub apply_follows : {s t : Stored} {P Q : Sort → Ref → Type 0} {l m : Lookups} (f g : Context) (d a b c x : ℕ) → Keeps s P l t Q m → f.items ≡ assumed.Bind d ∷ g.items → IsKnown s P OfType d → IsKnownCoercion s P g a b c
+pub apply_follows : {s t : Stored} {P Q : Sort → Ref → Type 0} {l m : Lookups} {D E : Development} (f g : Context) (d a b c x : ℕ) → Keeps s P l t Q m D E → f.items ≡ assumed.Bind d ∷ g.items → IsKnown s P OfType d → IsKnownCoercion s P g a b c
     → Gives t Q OfTerm (application (tree_at s d) (tree_at s a)) x
     → Follows l t Q (apply_outcome l (context_at s g.items) (tree_at s d) (tree_at s a) (tree_at s b) (tree_at s c)) (suc (coercion_work l (tree_at s b) (tree_at s c))) (One (Coerce f x b c))
 apply_follows {s} {t} {P} {Q} {l} f g d a b c x k e n h v =
@@ -493,7 +494,7 @@ other_done l s t Q g a b c n e o h x =
 pub above_follows : (l : Lookups) → IsOrdered l → (s : Stored) (P : Sort → Ref → Type 0) (g : Assumptions) (t b a : Tree) → IsSorted t → IsTerm t → is_above l b a ≡ Ok true → Follows l s P (coerce l g t b a) (coercion_work l b a) Done
 above_follows l ordered s P g t b a i h e = done_follows l s P (coerce l g t b a) b a (coerce_above l ordered g t b a i h e)
 
-pub to_follows : {s t : Stored} {P Q : Sort → Ref → Type 0} {l m : Lookups} (u : Stored) (R : Sort → Ref → Type 0) (g : Context) (a b c : ℕ) (x : Next) → IsOrdered l → Keeps s P l t Q m → IsKnownCoercion s P g a b c → IsSorted (tree_at s a)
+pub to_follows : {s t : Stored} {P Q : Sort → Ref → Type 0} {l m : Lookups} {D E : Development} (u : Stored) (R : Sort → Ref → Type 0) (g : Context) (a b c : ℕ) (x : Next) → IsOrdered l → Keeps s P l t Q m D E → IsKnownCoercion s P g a b c → IsSorted (tree_at s a)
     → is_above l (tree_at s b) (tree_at s c) ≡ Ok false
     → Follows m u R (coerce_to m (coerce m) (context_at t g.items) (tree_at t a) (tree_at t b) (tree_at t c)) (coercion_work m (tree_at t b) (tree_at t c)) x
     → Follows l u R (coerce l (context_at s g.items) (tree_at s a) (tree_at s b) (tree_at s c)) (coercion_work l (tree_at s b) (tree_at s c)) x
@@ -502,7 +503,7 @@ to_follows {s} {l = l} u R g a b c x ordered k h i e y =
     rw (k.lookups, context_same g.items k h.context, k.stored.trees a h.term.node, k.stored.trees b h.from.node, k.stored.trees c h.to.node) at y in
     follows_as z (sym (coerce_not_above l ordered (context_at s g.items) (tree_at s a) (tree_at s b) (tree_at s c) i h.term.sort e)) (omega arith)
 
-pub to_fault : {s t : Stored} {P Q : Sort → Ref → Type 0} {l m : Lookups} (g : Context) (a b c : ℕ) (e : TypeFault) → IsOrdered l → Keeps s P l t Q m → IsKnownCoercion s P g a b c → IsSorted (tree_at s a)
+pub to_fault : {s t : Stored} {P Q : Sort → Ref → Type 0} {l m : Lookups} {D E : Development} (g : Context) (a b c : ℕ) (e : TypeFault) → IsOrdered l → Keeps s P l t Q m D E → IsKnownCoercion s P g a b c → IsSorted (tree_at s a)
     → is_above l (tree_at s b) (tree_at s c) ≡ Ok false → IsFault (coerce_to m (coerce m) (context_at t g.items) (tree_at t a) (tree_at t b) (tree_at t c)) e
     → IsFault (coerce l (context_at s g.items) (tree_at s a) (tree_at s b) (tree_at s c)) e
 to_fault {s} {l = l} g a b c e ordered k h i o y =

@@ -40,4 +40,5 @@ state_of s d = record {
   stored = s;
   declares = λ n. IsDeclaredFrom d (text_at s n);
   lookups = λ n. lookups_from d (text_at s n);
+  theories = d;
 }

@@ -7,6 +7,7 @@ use Rattle.pvs_terms.specs.Sorts.{sort_of}
 use Rattle.pvs_terms.specs.Stored.{Stored, tree_at, IsNode, Extends}
 use Rattle.pvs_subst.specs.declared.context.Assumed.{Assumed}
 use Rattle.pvs_subst.specs.declared.context.Assumed.TheVariants as assumed
+use Rattle.pvs_sig.specs.Development.{Development}
 use Rattle.pvs_sig.specs.Lookups.{Lookups}
 
 -- each name of the tree is declared with the sort of its node
@@ -34,11 +35,12 @@ abbrev pub IsKnownContext : Stored → (Sort → Ref → Type 0) → List Assume
 IsKnownContext s P [] = Unit {0}
 IsKnownContext s P (x ∷ xs) = IsKnownItem s P x × IsKnownContext s P xs
 
--- each number stands for what it stood for, the same is looked up, and what was declared still is
-pub record Keeps (s : Stored) (P : Sort → Ref → Type 0) (l : Lookups) (t : Stored) (Q : Sort → Ref → Type 0) (m : Lookups) : Type 0 where
+-- each number stands for what it stood for, the same is looked up, what was declared still is, and the same theories stand
+pub record Keeps (s : Stored) (P : Sort → Ref → Type 0) (l : Lookups) (t : Stored) (Q : Sort → Ref → Type 0) (m : Lookups) (D E : Development) : Type 0 where
   pub stored : Extends s t
   pub declared : (o : Sort) (r : Ref) → P o r → Q o r
   pub lookups : m ≡ l
+  pub theories : E ≡ D
 
 -- known types, in a list
 abbrev pub AreKnown : Stored → (Sort → Ref → Type 0) → Sort → List ℕ → Type 0

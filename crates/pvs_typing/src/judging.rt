@@ -1,14 +1,16 @@
 //! The types of terms, and what makes types well formed.
 
+ghost use Rattle.std.specs.Prelude.{◌≡◌};
 ghost use Rattle.pvs_terms.specs.Stored.{IsName, tree_at};
 ghost use Rattle.pvs_subst.specs.Contexts.{context_at};
 ghost use Rattle.pvs_sig.specs.Lookups.{IsOrdered};
-ghost use Rattle.pvs_types.specs.Typing.{infer, check, well_formed};
+ghost use Rattle.pvs_types.specs.Typing.{infer, check, well_formed, is_forall};
 ghost use Rattle.pvs_typing.specs.State.{IsTypeOf, IsTermOf, IsContextOf};
 ghost use Rattle.pvs_typing.specs.Judging.{JudgesTerm, JudgesType};
 
 use crate::fault::TypeFault;
 use crate::judged::Judged;
+use crate::rows::forall_parts;
 use crate::symbols::symbols_of;
 use crate::theories::Theories;
 use crate::typing::{check_of, formed_of, infer_of};
@@ -103,4 +105,17 @@ pub fn well_formed<T: Theories>(
         conditions,
         uses,
     })
+}
+
+/// Whether these are the two sides of a FORALL: a predicate on a type, and TRUE on the same type. This
+/// takes no memory.
+pub fn is_forall<T: Theories>(theories: &T, _theory: Name, left: Id, right: Id) -> bool
+    requires left { IsTermOf (T.state theories.now) _theory left }
+    requires right { IsTermOf (T.state theories.now) _theory right }
+    ensures { result ≡ is_forall (tree_at (T.state theories.now).stored left) (tree_at (T.state theories.now).stored right) }
+{
+    match forall_parts(theories, _theory, left, right) {
+        Some(_) => true,
+        None => false,
+    }
 }

@@ -25,5 +25,5 @@ pub use fault::TypeFault;
 pub use forms::{head, up};
 pub use general::most;
 pub use judged::Judged;
-pub use judging::{check, infer, well_formed};
+pub use judging::{check, infer, is_forall, well_formed};
 pub use theories::Theories;

@@ -29,11 +29,12 @@ example_kept {a = a} {d = d} {b = b} k h = record {
   small = ap (type_size example_rank) (k.trees b h.body) ∙ h.small;
 }
 
-pub lookups_kept : {s t : Stored} {a d b : ℕ} → Extends s t → IsExample s a d b → Keeps s IsDeclared (example_lookups s a d b) t IsDeclared (example_lookups t a d b)
+pub lookups_kept : {s t : Stored} {a d b : ℕ} → Extends s t → IsExample s a d b → Keeps s IsDeclared (example_lookups s a d b) t IsDeclared (example_lookups t a d b) [] []
 lookups_kept {a = a} {d = d} {b = b} k h = record {
   stored = k;
   declared = λ o r x. tt;
   lookups = rw (k.trees a h.node, k.references d h.defined, k.trees b h.body) refl;
+  theories = refl;
 }
 
 at_least : (r : Ref) → 2 < suc (example_rank r)

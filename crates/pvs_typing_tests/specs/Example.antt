@@ -1,6 +1,6 @@
 -- Theories for tests: each constant has one type, one type's name has a body that is a subtype, each of the theory's
 -- own types after the first is defined as the one before it, and all names are declared.
-use Rattle.std.specs.Prelude.{◌≡◌, ℕ, zero, suc, ◌+◌, Option, true, false, if◌then◌else◌, Some, None, List, ◌<◌, length, slice_index}
+use Rattle.std.specs.Prelude.{◌≡◌, ℕ, zero, suc, ◌+◌, Option, true, false, if◌then◌else◌, Some, None, List, [], ◌<◌, length, slice_index}
 use Rattle.pvs_terms.specs.Tree.{Tree, Ref, Own, Formal, Inst, TName, ref_eq}
 use Rattle.pvs_terms.specs.Sorts.{IsType, HasSorts, sort_of}
 use Rattle.pvs_terms.specs.declared.node.Node.{Node}
@@ -38,6 +38,7 @@ example_state s a d b = record {
   stored = s;
   declares = λ n. IsDeclared;
   lookups = λ n. example_lookups s a d b;
+  theories = [];
 }
 
 -- the type of constants, and a defined name whose body is a subtype of the truth values
