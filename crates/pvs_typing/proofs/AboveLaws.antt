@@ -7,6 +7,7 @@ use Rattle.pvs_terms.specs.Stored.{Stored, tree_at}
 use Rattle.pvs_subst.specs.Contexts.{context_at}
 use Rattle.pvs_subst.specs.declared.context.Assumed.{Assumed}
 use Rattle.pvs_subst.specs.declared.context.Condition.{Condition}
+use Rattle.pvs_sig.specs.Development.{Development}
 use Rattle.pvs_sig.specs.Lookups.{Lookups}
 use Rattle.pvs_base.specs.Answers as answers
 use Rattle.pvs_base.specs.declared.code.Code.{Code}
@@ -41,7 +42,7 @@ pub up_refused : (l : Lookups) (b a : Tree) (e : TypeFault) → IsRefusal (up l 
 up_refused l b a (fault.Refused c) h = ap (λ (x : Result (List Tree) Code). answers.◌>>=◌ x (λ ts. Ok (is_among a ts))) h
 up_refused l b a fault.Memory h = tt
 
-coercion_same : {s t : Stored} {P Q : Sort → Ref → Type 0} {l m : Lookups} (g : List Assumed) (a b c : ℕ) → Keeps s P l t Q m → IsKnownContext s P g → IsKnown s P OfTerm a → IsKnown s P OfType b → IsKnown s P OfType c
+coercion_same : {s t : Stored} {P Q : Sort → Ref → Type 0} {l m : Lookups} {D E : Development} (g : List Assumed) (a b c : ℕ) → Keeps s P l t Q m D E → IsKnownContext s P g → IsKnown s P OfTerm a → IsKnown s P OfType b → IsKnown s P OfType c
     → coerce m (context_at t g) (tree_at t a) (tree_at t b) (tree_at t c) ≡ coerce l (context_at s g) (tree_at s a) (tree_at s b) (tree_at s c)
 coercion_same g a b c k h i j n = rw (k.lookups, context_same g k h, k.stored.trees a i.node, k.stored.trees b j.node, k.stored.trees c n.node) refl
 
