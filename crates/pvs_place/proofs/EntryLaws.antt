@@ -319,9 +319,6 @@ module _ {v u : InstancesView} {n : ℕ} {i : PlaceNames} (place : IsPlace v n i
           ∙ latest_grown h.others h.signature (with_entry (entry_at u.store e))
           ∙ ap (λ x. with_entry x h.signature ∷ h.others) (entry_same v.store u.store kept.store e place_entry)
 
-      pub place_grows : development w ≡ with_next (entry_at v.store e) (development v)
-      place_grows = grown_is ∙ ap (with_next (entry_at v.store e)) (sym place.latest.reads)
-
       pub next_place : (j : PlaceNames) → ((d : Development) (g : Signature) → NamesAt v.store i d g → NamesAt u.store j d (with_entry (entry_at v.store e) g)) → IsPlace w n j
       next_place j names = record {
         latest = record {
@@ -334,6 +331,3 @@ module _ {v u : InstancesView} {n : ℕ} {i : PlaceNames} (place : IsPlace v n i
         imports = place.imports;
         names = subst (λ s. NamesAt s j place.latest.others (with_entry (entry_at v.store e) place.latest.signature)) (sym same) (names place.latest.others place.latest.signature place.names);
       }
-
-      pub next_extends : Extends v.store w.store
-      next_extends = subst (λ s. Extends v.store s) (sym same) kept.store

@@ -52,29 +52,3 @@ predicate_ok (Err f) h e k = tt
 pub predicate_fault : {A : Type 0} {o p q : Outcome (Unit {0})} (r : Result A TypeFault) → Accepts o tt → q ≡ p → IfErr r (IsFault q) → IfErr r (IsFault (o >> p))
 predicate_fault (Ok u) h e k = tt
 predicate_fault {o = o} {p} (Err f) h e k = second_fault o p tt f h (subst (λ z. IsFault z f) e k)
-
--- the predicate of a universal formula is an abstraction
-pub lambda_predicate : (l : Lookups) (s : Stored) (g : Assumptions) (t : Tree) (n : Node) (a b : ℕ) → t ≡ node_tree s n → n ≡ node.Lam a b
-    → (typing l t).predicate g ≡ predicate_check (tree_at s a) (typing l (tree_at s a)) (typing l (tree_at s b)) g
-lambda_predicate l s g t n a b e f = rw (e, f) refl
-
-no_lambda : (l : Lookups) (s : Stored) (g : Assumptions) (n : Node) → ((a b : ℕ) → n ≡ node.Lam a b → ⊥) → (typing l (node_tree s n)).predicate g ≡ Refused Unknown
-no_lambda l s g node.TBool h = refl
-no_lambda l s g (node.TName r) h = refl
-no_lambda l s g (node.TSub a b) h = refl
-no_lambda l s g (node.TFun a b) h = refl
-no_lambda l s g (node.TPair k a b) h = refl
-no_lambda l s g (node.Var n) h = refl
-no_lambda l s g (node.Const r) h = refl
-no_lambda l s g node.True h = refl
-no_lambda l s g node.False h = refl
-no_lambda l s g (node.Lam a b) h = absurd (h a b refl)
-no_lambda l s g (node.App a b) h = refl
-no_lambda l s g (node.Tup k a b) h = refl
-no_lambda l s g (node.Fst k a) h = refl
-no_lambda l s g (node.Snd k a) h = refl
-no_lambda l s g (node.If a b c) h = refl
-no_lambda l s g (node.Eq a b) h = refl
-
-pub other_predicate : (l : Lookups) (s : Stored) (g : Assumptions) (t : Tree) (n : Node) → t ≡ node_tree s n → ((a b : ℕ) → n ≡ node.Lam a b → ⊥) → (typing l t).predicate g ≡ Refused Unknown
-other_predicate l s g t n e h = ap (λ u. (typing l u).predicate g) e ∙ no_lambda l s g n h

@@ -26,9 +26,6 @@ state_grows x e = record {
 pub known_grows : {s t : Stored} {D E : Development} → Keeps s (IsDeclaredIn D) (lookups_in D) t (IsDeclaredIn E) (lookups_in E) D E → Grows (known_in s D) (known_in t E)
 known_grows k = record { keeps = k; names = ap names_in k.theories }
 
-pub leaves_known : {v w : InstancesView} → Leaves v w → Grows (known_in v.store (development v)) (known_in w.store (development w))
-leaves_known x = known_grows (state_grows x.store x.development)
-
 unfoldable pub latest_kept : {v w : InstancesView} {n : ℕ} → IsLatest v n → Leaves v w → IsLatest w n
 latest_kept {n = n} h x = record {
   named = x.store.names n h.named;
