@@ -1,0 +1,10 @@
+use Rattle.pvs_place.proofs.NameLaws.{constant_found, constant_refused}
+use Rattle.pvs_place.proofs.place.Place.constant.Goals as goal
+
+pub returns-clause-ok : goal.returns-clause-ok
+returns-clause-ok g c =
+    rw (← c.self.view_is) (constant_found c.self.inside.instances c.self.inside.theory c.self.inside.names c.self.invariant c.soundness.ensures.standing.over c.args.name.now c.constant_named.result c.constant_named.ensures)
+
+pub returns-clause-refused : goal.returns-clause-refused
+returns-clause-refused g c =
+    rw (← c.self.view_is) (constant_refused c.self.inside.instances c.self.inside.theory c.self.inside.names c.self.invariant c.soundness.ensures.standing.over c.args.name.now c.constant_named.result c.constant_named.ensures)

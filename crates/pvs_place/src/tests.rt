@@ -1,0 +1,146 @@
+//! The calls at the first place of a theory, and a constant that is declared there.
+
+ghost use Rattle.std.specs.Prelude.{IfOk};
+ghost use Rattle.pvs_terms.specs.Stored.{IsName};
+ghost use Rattle.pvs_instantiate.specs.InstancesView.{development};
+ghost use Rattle.pvs_place.specs.NextEntry.{IsNextKind};
+ghost use Rattle.pvs_place.specs.Place.{known_in};
+
+use crate::Place;
+use pvs_base::Code;
+use pvs_cache::NoCache;
+use pvs_elaboration::Scope;
+use pvs_instantiate::Instances;
+use pvs_sig::{Entry, EntryKind};
+use pvs_terms::Node;
+use pvs_typing::TypeFault;
+use std::alloc::Global;
+use std::process::Abort;
+use std::test::Fail;
+
+/// The place at the beginning of a theory, where no other stands.
+fn begin(alloc: Global) -> Result<Place<NoCache>, Fail> {
+    let mut instances = Instances::new(alloc, NoCache)?;
+    let name = instances.name("T")?;
+    let place = Place::new(instances, name)?;
+    Ok(place)
+}
+
+/// A constant `k` of the truth values.
+fn constant(place: &mut Place<NoCache>) -> Result<Entry, Fail>
+    ensures name { IfOk result (λ e. IsName place.new.store e.name) }
+    ensures kind { IfOk result (λ e. IsNextKind (known_in place.new.store (development place.new)) e.kind) }
+{
+    let name = place.name("k")?;
+    let ty = place.make(Node::TBool)?;
+    Ok(Entry {
+        name,
+        kind: EntryKind::ConstSig { ty, body: None },
+    })
+}
+
+/// The place after it.
+fn after_constant(place: Place<NoCache>) -> Result<Place<NoCache>, Fail> {
+    let mut first = place;
+    let entry = constant(&mut first)?;
+    let next = first.with_entry(entry)?;
+    Ok(next)
+}
+
+fn names_are_found(rt: &impl Abort, place: &Place<NoCache>) {
+    assert!(rt; place.constant_named(b"k").is_ok());
+    assert!(rt; place.type_named(b"k") == Err(Code::Unknown));
+    assert!(rt; place.variable_named(b"k").is_err());
+}
+
+fn truth_has_a_type(rt: &impl Abort, place: &mut Place<NoCache>) -> Result<(), Fail> {
+    let here = place.outermost()?;
+    assert!(rt; place.infer(&here, here.yes) == Ok(here.truth));
+    Ok(())
+}
+
+fn truth_is_checked(rt: &impl Abort, place: &mut Place<NoCache>) -> Result<(), Fail> {
+    let here = place.outermost()?;
+    assert!(rt; place.check(&here, here.yes, here.truth).is_ok());
+    Ok(())
+}
+
+fn truth_is_coerced(rt: &impl Abort, place: &mut Place<NoCache>) -> Result<(), Fail> {
+    let here = place.outermost()?;
+    assert!(rt; place.coerce(&here, here.yes, here.truth, here.truth).is_ok());
+    Ok(())
+}
+
+fn a_type_is_well_formed(rt: &impl Abort, place: &mut Place<NoCache>) -> Result<(), Fail> {
+    let here = place.outermost()?;
+    assert!(rt; place.well_formed(&here, here.truth).is_ok());
+    Ok(())
+}
+
+fn a_type_has_a_head(rt: &impl Abort, place: &mut Place<NoCache>) -> Result<(), Fail> {
+    let here = place.outermost()?;
+    assert!(rt; place.head(&here, here.truth) == Ok(here.truth));
+    Ok(())
+}
+
+fn a_type_is_general(rt: &impl Abort, place: &mut Place<NoCache>) -> Result<(), Fail> {
+    let here = place.outermost()?;
+    assert!(rt; place.most(&here, here.truth) == Ok(here.truth));
+    Ok(())
+}
+
+fn one_type_is_above(rt: &impl Abort, place: &mut Place<NoCache>) -> Result<(), Fail> {
+    let here = place.outermost()?;
+    let above = place.up(&here, here.truth);
+    assert!(rt; matches!(&above, Ok(types) if types.len() == 1));
+    Ok(())
+}
+
+fn truth_is_no_predicate(rt: &impl Abort, place: &mut Place<NoCache>) -> Result<(), Fail> {
+    let here = place.outermost()?;
+    assert!(rt; !place.is_forall(here.yes, here.no));
+    assert!(rt; place.type_view(here.truth) == Node::TBool);
+    assert!(rt; place.predicate(&here, here.yes) == Err(TypeFault::Refused(Code::Unknown)));
+    Ok(())
+}
+
+fn trees_are_made(rt: &impl Abort, place: &mut Place<NoCache>) -> Result<(), Fail> {
+    let here = place.outermost()?;
+    assert!(rt; place.lift(here.yes, 1) == Ok(here.yes));
+    Ok(())
+}
+
+fn a_type_is_replaced(rt: &impl Abort, place: &mut Place<NoCache>) -> Result<(), Fail> {
+    let here = place.outermost()?;
+    assert!(rt; place.put_in(here.truth, here.yes) == Ok(here.truth));
+    Ok(())
+}
+
+fn typing_answers(rt: &impl Abort, place: &mut Place<NoCache>) -> Result<(), Fail> {
+    truth_has_a_type(rt, place)?;
+    truth_is_checked(rt, place)?;
+    truth_is_coerced(rt, place)?;
+    a_type_is_well_formed(rt, place)?;
+    a_type_has_a_head(rt, place)?;
+    a_type_is_general(rt, place)?;
+    one_type_is_above(rt, place)?;
+    truth_is_no_predicate(rt, place)?;
+    trees_are_made(rt, place)?;
+    a_type_is_replaced(rt, place)
+}
+
+/// A place serves for elaboration.
+fn as_scope<S: Scope>(scope: &S) -> &S {
+    scope
+}
+
+#[test]
+fn a_place_answers(rt: HostRuntime) -> Result<(), Fail> {
+    let first = begin(rt.alloc())?;
+    let mut place = after_constant(first)?;
+    names_are_found(&rt, as_scope(&place));
+    typing_answers(&rt, &mut place)?;
+    let instances = place.into_instances();
+    let _store = instances.store();
+    Ok(())
+}
