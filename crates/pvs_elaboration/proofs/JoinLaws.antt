@@ -31,10 +31,10 @@ use Rattle.pvs_elaboration.specs.declared.frame.Entrance.TheVariants as entrance
 use Rattle.pvs_elaboration.specs.declared.frame.Next.{Next}
 use Rattle.pvs_elaboration.specs.Known.{Sources, place_in, Known, Grows, Site, site_in, IsHere, IsTypeOf, AreKnownNumbers, Failed}
 use Rattle.pvs_elaboration.specs.Meanings.{Meaning, Typed, Term, Formed, Done, typed_at, typed_answer, fault_of}
-use Rattle.pvs_elaboration.specs.Choice.{Places, places_of, join_made, join_second, join_first, join_shared, join_above, join_types, join, branch_second, branch_negation, branch_first, choice_after, choice_numbers}
+use Rattle.pvs_elaboration.specs.Choice.{Places, places_of, join_made, join_second, join_first, join_shared, join_above, join_types, join, branch_second, branch_negation, branch_first, choice_answer, choice_numbers}
 use Rattle.pvs_elaboration.specs.Machine.{made_answer, Follows, Steps}
 use Rattle.pvs_elaboration.proofs.KnownLaws.{number_stays, tree_stays, numbers_stay, failed_then}
-use Rattle.pvs_elaboration.proofs.MachineLaws.{then_same, then_two, then_alike, coerced_unused, after_stays, failed_same}
+use Rattle.pvs_elaboration.proofs.MachineLaws.{then_same, then_two, then_alike, coerced_unused, frame_stays, failed_same}
 use Rattle.pvs_elaboration.proofs.StepLaws.{given, follows_at_once, steps_same, type_found, type_refused, typing_failed, refusal_fault}
 
 -- The definition of a choice, with places for those of its branches.
@@ -76,7 +76,7 @@ branches_are z early x y join_at at p =
 
 pub join_early_row : (k j : Known) (text : Sources) (h : Here) (b : Branches) (p : ℕ) (a : here.Typed) (n : ℕ) (c : here.Typed) (res : Result Next ElabFault) → b.early ≡ true
     → Steps k j text h (made_answer (site_in k text h) k.stored text b.at (node_tree k.stored (node.If p a.tree c.tree)) (frame.Choice (Types p a n c) b)) res
-    → Steps k j text h (choice_after (site_in k text h) k.stored text (Join p a n) b (Typed (typed_at k.stored c))) res
+    → Steps k j text h (choice_answer (site_in k text h) k.stored text (Join p a n) b (Typed (typed_at k.stored c))) res
 join_early_row k j text h b p a n c res e t =
     let z = site_in k text h in
     let types = join_types z (places_of text b) (tree_at k.stored p) (typed_at k.stored a) (tree_at k.stored n) (typed_at k.stored c) in
@@ -84,7 +84,7 @@ join_early_row k j text h b p a n c res e t =
     steps_same k j text h _ _ res (ap (λ (early : Bool). typed_answer (if early then tree >>= (λ _. types) else types)) e ∙ then_same tree (λ _. types) (λ (u : TypedTree). Ok (Typed u))) t
 
 pub join_follows : {k : Known} (text : Sources) (h : Here) (b : Branches) (p : ℕ) (a : here.Typed) (n : ℕ) (c : here.Typed) → b.early ≡ false → AreKnownNumbers k (choice_numbers (Types p a n c))
-    → Follows k k text h (choice_after (site_in k text h) k.stored text (Join p a n) b (Typed (typed_at k.stored c))) (given (value.Term p) (frame.Choice (Types p a n c) b))
+    → Follows k k text h (choice_answer (site_in k text h) k.stored text (Join p a n) b (Typed (typed_at k.stored c))) (given (value.Term p) (frame.Choice (Types p a n c) b))
 join_follows {k} text h b p a n c e m =
     let z = site_in k text h in
     let types = join_types z (places_of text b) (tree_at k.stored p) (typed_at k.stored a) (tree_at k.stored n) (typed_at k.stored c) in
@@ -102,7 +102,7 @@ types_found z g p a n b us vs o d e f =
 
 pub types_shared : {a b : Known} (text : Sources) (h : Here) (br : Branches) (p : ℕ) (q : here.Typed) (n : ℕ) (c : here.Typed) (t u : ℕ) (us vs : List Tree) → Grows a b → IsHere a h
     → AreKnownNumbers a (choice_numbers (Types p q n c)) → IsTypeOf b u → up a.lookups (tree_at a.stored q.ty) ≡ Ok us → up a.lookups (tree_at a.stored c.ty) ≡ Ok vs → first_among us vs ≡ Some (tree_at b.stored u)
-    → Follows a b text h (choice_after (site_in a text h) a.stored text (Types p q n c) br (Term (tree_at a.stored t))) (given (value.Term p) (frame.Choice (Made p q c u) br))
+    → Follows a b text h (choice_answer (site_in a text h) a.stored text (Types p q n c) br (Term (tree_at a.stored t))) (given (value.Term p) (frame.Choice (Made p q c u) br))
 unfolding site_in
 types_shared {a} {b} text h br p q n c t u us vs g i m k d e f =
     let z = site_in a text h in
@@ -119,7 +119,7 @@ types_shared {a} {b} text h br p q n c t u us vs g i m k d e f =
 
 pub types_apart : {a b : Known} (text : Sources) (h : Here) (br : Branches) (p : ℕ) (q : here.Typed) (n : ℕ) (c : here.Typed) (t : ℕ) (us vs : List Tree) → Grows a b → IsHere a h
     → AreKnownNumbers a (choice_numbers (Types p q n c)) → up a.lookups (tree_at a.stored q.ty) ≡ Ok us → up a.lookups (tree_at a.stored c.ty) ≡ Ok vs → first_among us vs ≡ None
-    → Follows a b text h (choice_after (site_in a text h) a.stored text (Types p q n c) br (Term (tree_at a.stored t))) (given value.Done (frame.Choice (General p q n c) br))
+    → Follows a b text h (choice_answer (site_in a text h) a.stored text (Types p q n c) br (Term (tree_at a.stored t))) (given value.Done (frame.Choice (General p q n c) br))
 unfolding site_in
 types_apart {a} {b} text h br p q n c t us vs g i m d e f =
     let z = site_in a text h in
@@ -127,11 +127,11 @@ types_apart {a} {b} text h br p q n c t us vs g i m d e f =
       kept = g;
       known = record { entrance = tt; control = tt; frame = numbers_stay (choice_numbers (General p q n c)) g m };
       is = ap typed_answer (types_found z (places_of text br) (tree_at a.stored p) (typed_at a.stored q) (tree_at a.stored n) (typed_at a.stored c) us vs None d e f)
-          ∙ sym (ap (λ (w : Meaning → Answer Meaning). w Done) (after_stays text h (frame.Choice (General p q n c) br) g i m));
+          ∙ sym (ap (λ (w : Meaning → Answer Meaning). w Done) (frame_stays text h (frame.Choice (General p q n c) br) g i m));
     }
 
 pub first_type_refused : {a b : Known} (text : Sources) (h : Here) (br : Branches) (p : ℕ) (q : here.Typed) (n : ℕ) (c : here.Typed) (t : ℕ) (e : TypeFault) → Grows a b → IsRefusal (up a.lookups (tree_at a.stored q.ty)) e
-    → Failed a b (choice_after (site_in a text h) a.stored text (Types p q n c) br (Term (tree_at a.stored t))) (fault_of (place_in text br.first_at) (place_in text br.first_at) e)
+    → Failed a b (choice_answer (site_in a text h) a.stored text (Types p q n c) br (Term (tree_at a.stored t))) (fault_of (place_in text br.first_at) (place_in text br.first_at) e)
 unfolding site_in
 first_type_refused {a} text h br p q n c t e g x =
     let z = site_in a text h in
@@ -141,7 +141,7 @@ first_type_refused {a} text h br p q n c t e g x =
 
 pub second_type_refused : {a b : Known} (text : Sources) (h : Here) (br : Branches) (p : ℕ) (q : here.Typed) (n : ℕ) (c : here.Typed) (t : ℕ) (us : List Tree) (e : TypeFault) → Grows a b
     → up a.lookups (tree_at a.stored q.ty) ≡ Ok us → IsRefusal (up a.lookups (tree_at a.stored c.ty)) e
-    → Failed a b (choice_after (site_in a text h) a.stored text (Types p q n c) br (Term (tree_at a.stored t))) (fault_of (place_in text br.second_at) (place_in text br.second_at) e)
+    → Failed a b (choice_answer (site_in a text h) a.stored text (Types p q n c) br (Term (tree_at a.stored t))) (fault_of (place_in text br.second_at) (place_in text br.second_at) e)
 unfolding site_in
 second_type_refused {a} {b} text h br p q n c t us e g d x =
     let z = site_in a text h in
@@ -156,14 +156,14 @@ second_type_refused {a} {b} text h br p q n c t us e g d x =
 
 pub general_follows : {a b : Known} (text : Sources) (h : Here) (br : Branches) (p : ℕ) (q : here.Typed) (n : ℕ) (c : here.Typed) (i : ℕ) → Grows a b → IsHere a h → AreKnownNumbers a (choice_numbers (General p q n c)) → IsTypeOf b i
     → most a.lookups (tree_at a.stored q.ty) ≡ Ok (tree_at b.stored i)
-    → Follows a b text h (choice_after (site_in a text h) a.stored text (General p q n c) br Done) (given (value.Formed i) (frame.Choice (JoinFirst p q n c) br))
+    → Follows a b text h (choice_answer (site_in a text h) a.stored text (General p q n c) br Done) (given (value.Formed i) (frame.Choice (JoinFirst p q n c) br))
 unfolding site_in
 general_follows {a} text h br p q n c i g m x t e =
     type_found text h (place_in text br.first_at) (most a.lookups (tree_at a.stored q.ty)) (join_first (site_in a text h) (places_of text br) (tree_at a.stored p) (typed_at a.stored q) (tree_at a.stored n) (typed_at a.stored c))
     (λ (u : TypedTree). Ok (Typed u)) (frame.Choice (JoinFirst p q n c) br) i g m x t e (λ u. refl)
 
 pub general_refused : {a b : Known} (text : Sources) (h : Here) (br : Branches) (p : ℕ) (q : here.Typed) (n : ℕ) (c : here.Typed) (e : TypeFault) → Grows a b → IsRefusal (most a.lookups (tree_at a.stored q.ty)) e
-    → Failed a b (choice_after (site_in a text h) a.stored text (General p q n c) br Done) (fault_of (place_in text br.first_at) (place_in text br.first_at) e)
+    → Failed a b (choice_answer (site_in a text h) a.stored text (General p q n c) br Done) (fault_of (place_in text br.first_at) (place_in text br.first_at) e)
 unfolding site_in
 general_refused {a} text h br p q n c e g x =
     type_refused (place_in text br.first_at) (most a.lookups (tree_at a.stored q.ty)) (join_first (site_in a text h) (places_of text br) (tree_at a.stored p) (typed_at a.stored q) (tree_at a.stored n) (typed_at a.stored c)) (λ (u : TypedTree). Ok (Typed u)) e g x
@@ -173,7 +173,7 @@ abbrev pub joins_under : ℕ → here.Typed → ℕ → ℕ → ℕ → Frame �
 joins_under p t large at u f = record { entrance = entrance.Hypothesis p; control = control.Coerce t large at u; frame = f }
 
 pub join_first_follows : {k : Known} (text : Sources) (h : Here) (br : Branches) (p : ℕ) (q : here.Typed) (n : ℕ) (c : here.Typed) (i : ℕ) → IsTypeOf k i → AreKnownNumbers k (choice_numbers (JoinFirst p q n c))
-    → Follows k k text h (choice_after (site_in k text h) k.stored text (JoinFirst p q n c) br (Formed (tree_at k.stored i))) (joins_under p q br.first_at br.join i (frame.Choice (JoinSecond p q n c i) br))
+    → Follows k k text h (choice_answer (site_in k text h) k.stored text (JoinFirst p q n c) br (Formed (tree_at k.stored i))) (joins_under p q br.first_at br.join i (frame.Choice (JoinSecond p q n c i) br))
 join_first_follows {k} text h br p q n c i t m =
     let z = site_in k text h in
     follows_at_once text h _ _ (record { entrance = (m.0, tt); control = (m.1.0, (m.1.1.0, (t, tt))); frame = (m.0, (m.1.0, (m.1.1.0, (m.1.1.1.0, (m.1.1.1.1.0, (m.1.1.1.1.1.0, (t, tt))))))) })
@@ -181,7 +181,7 @@ join_first_follows {k} text h br p q n c i t m =
     (join_second z (places_of text br) (tree_at k.stored p) (typed_at k.stored q) (tree_at k.stored n) (typed_at k.stored c) (tree_at k.stored i)) (λ (u : TypedTree). Ok (Typed u)))
 
 pub join_second_follows : {k : Known} (text : Sources) (h : Here) (br : Branches) (p : ℕ) (q : here.Typed) (n : ℕ) (c : here.Typed) (i t : ℕ) → AreKnownNumbers k (choice_numbers (JoinSecond p q n c i))
-    → Follows k k text h (choice_after (site_in k text h) k.stored text (JoinSecond p q n c i) br (Term (tree_at k.stored t))) (joins_under n c br.second_at br.join i (frame.Choice (Made p q c i) br))
+    → Follows k k text h (choice_answer (site_in k text h) k.stored text (JoinSecond p q n c i) br (Term (tree_at k.stored t))) (joins_under n c br.second_at br.join i (frame.Choice (Made p q c i) br))
 join_second_follows {k} text h br p q n c i t m =
     let z = site_in k text h in
     follows_at_once text h _ _ (record { entrance = (m.1.1.1.0, tt); control = (m.1.1.1.1.0, (m.1.1.1.1.1.0, (m.1.1.1.1.1.1.0, tt))); frame = (m.0, (m.1.0, (m.1.1.0, (m.1.1.1.1.0, (m.1.1.1.1.1.0, (m.1.1.1.1.1.1.0, tt)))))) })
@@ -190,7 +190,7 @@ join_second_follows {k} text h br p q n c i t m =
 
 pub made_row : (k j : Known) (text : Sources) (h : Here) (br : Branches) (p : ℕ) (q c : here.Typed) (u t : ℕ) (res : Result Next ElabFault)
     → Steps k j text h (made_answer (site_in k text h) k.stored text br.at (node_tree k.stored (node.If p q.tree c.tree)) (frame.WithType u)) res
-    → Steps k j text h (choice_after (site_in k text h) k.stored text (Made p q c u) br (Term (tree_at k.stored t))) res
+    → Steps k j text h (choice_answer (site_in k text h) k.stored text (Made p q c u) br (Term (tree_at k.stored t))) res
 made_row k j text h br p q c u t res s =
     steps_same k j text h _ _ res
     (then_same (within_limits_at (place_in text br.at) (If (tree_at k.stored p) (tree_at k.stored q.tree) (tree_at k.stored c.tree))) (λ (v : Tree). Ok (record { tree = v; ty = tree_at k.stored u })) (λ (v : TypedTree). Ok (Typed v))) s

@@ -26,8 +26,8 @@ use Rattle.pvs_elaboration.specs.declared.frame.Frame.TheVariants as frame
 use Rattle.pvs_elaboration.specs.Known as known
 use Rattle.pvs_elaboration.specs.Known.{Sources, word_at, place_in, Known, Grows, Accepts, Site, site_in, IsHere, IsTypeOf, AreKnownNumbers, locals_at, local_item, Failed}
 use Rattle.pvs_elaboration.specs.Meanings.{Typed, Term, Formed, typed_answer, term_answer, formed_answer, fault_of, fault_at}
-use Rattle.pvs_elaboration.specs.Names.{inferred_at, checked_at, accepted_at, name_after, IsVariable, local_tree}
-use Rattle.pvs_elaboration.specs.Machine.{asked_at, after, frame_numbers, made_answer, made_type_answer, named_answer, Follows}
+use Rattle.pvs_elaboration.specs.Names.{inferred_at, checked_at, accepted_at, name_answer, IsVariable, local_tree}
+use Rattle.pvs_elaboration.specs.Machine.{asked_at, frame_answer, frame_numbers, made_answer, made_type_answer, named_answer, Follows}
 use Rattle.pvs_elaboration.proofs.KnownLaws.{grows_none, number_stays, tree_stays, within_limits_made, failed_then}
 use Rattle.pvs_elaboration.proofs.MachineLaws.{then_same}
 use Rattle.pvs_elaboration.proofs.StepLaws.{given, given_follows, follows_at_once, typing_failed}
@@ -44,8 +44,8 @@ local_found s t x d [] = refl
 local_found s t x d (l ∷ ls) = found_if (bytes_eq x (word_at t l.name)) s d l (local_named x (locals_at s t d ls)) (local_item t x ls) (local_found s t x d ls)
 
 named_is : (z : Site) (s : Stored) (text : Sources) (d : ℕ) (x : Text) (at : ℕ) (i : Option (ℕ × ℕ)) (f : Frame)
-    → (name_term z.names x (place_in text at) (local_tree s d i) >>= (λ t. after z s text f (Term t))) ≡ named_answer z s text d x at i f
-named_is z s text d x at None f = then_same (from_name (place_in text at) (z.names.constant_named x)) (λ r. within_limits_at (place_in text at) (Const r)) (λ t. after z s text f (Term t))
+    → (name_term z.names x (place_in text at) (local_tree s d i) >>= (λ t. frame_answer z s text f (Term t))) ≡ named_answer z s text d x at i f
+named_is z s text d x at None f = then_same (from_name (place_in text at) (z.names.constant_named x)) (λ r. within_limits_at (place_in text at) (Const r)) (λ t. frame_answer z s text f (Term t))
 named_is z s text d x at (Some i) f = refl
 
 -- what is asked of a name, by the term that it stands for
@@ -56,7 +56,7 @@ unfolding site_in
 name_inferred k text h x p =
     let z = site_in k text h in
     then_same (name_term k.names x (place_in text p) (local_named x (locals_at k.stored text h.depth h.locals))) (inferred_at z (place_in text p)) (λ (t : TypedTree). Ok (Typed t))
-    ∙ ap (λ (o : Option Tree). name_term k.names x (place_in text p) o >>= (λ t. after z k.stored text (frame.Name name.Infer p) (Term t))) (local_found k.stored text x h.depth h.locals)
+    ∙ ap (λ (o : Option Tree). name_term k.names x (place_in text p) o >>= (λ t. frame_answer z k.stored text (frame.Name name.Infer p) (Term t))) (local_found k.stored text x h.depth h.locals)
     ∙ named_is z k.stored text h.depth x p (local_item text x h.locals) (frame.Name name.Infer p)
 
 pub name_checked : (k : Known) (text : Sources) (h : Here) (x : Text) (p at u : ℕ)
@@ -65,7 +65,7 @@ unfolding site_in
 name_checked k text h x p at u =
     let z = site_in k text h in
     then_same (name_term k.names x (place_in text p) (local_named x (locals_at k.stored text h.depth h.locals))) (checked_at z (place_in text at) (tree_at k.stored u)) (λ (t : Tree). Ok (Term t))
-    ∙ ap (λ (o : Option Tree). name_term k.names x (place_in text p) o >>= (λ t. after z k.stored text (frame.Name (name.Check u) at) (Term t))) (local_found k.stored text x h.depth h.locals)
+    ∙ ap (λ (o : Option Tree). name_term k.names x (place_in text p) o >>= (λ t. frame_answer z k.stored text (frame.Name (name.Check u) at) (Term t))) (local_found k.stored text x h.depth h.locals)
     ∙ named_is z k.stored text h.depth x p (local_item text x h.locals) (frame.Name (name.Check u) at)
 
 -- a local name: its term is lifted
@@ -90,7 +90,7 @@ constant_unknown k text h d x p f c e =
 
 pub inferred_follows : {a b : Known} (text : Sources) (h : Here) (at t i : ℕ) → Grows a b → known.IsTermOf a t → IsTypeOf b i
     → Accepts (infer a.lookups (context_at a.stored h.context.items) (tree_at a.stored t)) (tree_at b.stored i)
-    → Follows a b text h (name_after (site_in a text h) a.stored text name.Infer at (Term (tree_at a.stored t))) (given (value.Typed (record { tree = t; ty = i })) frame.Same)
+    → Follows a b text h (name_answer (site_in a text h) a.stored text name.Infer at (Term (tree_at a.stored t))) (given (value.Typed (record { tree = t; ty = i })) frame.Same)
 unfolding site_in
 inferred_follows {a} {b} text h at t i g n m x = record {
   kept = g;
@@ -99,14 +99,14 @@ inferred_follows {a} {b} text h at t i g n m x = record {
 }
 
 pub inference_failed : {a b : Known} (text : Sources) (h : Here) (at t : ℕ) (e : TypeFault) → Grows a b → IsFault (infer a.lookups (context_at a.stored h.context.items) (tree_at a.stored t)) e
-    → Failed a b (name_after (site_in a text h) a.stored text name.Infer at (Term (tree_at a.stored t))) (fault_of (place_in text at) (place_in text at) e)
+    → Failed a b (name_answer (site_in a text h) a.stored text name.Infer at (Term (tree_at a.stored t))) (fault_of (place_in text at) (place_in text at) e)
 unfolding site_in
 inference_failed {a} text h at t e g x =
     failed_then (λ (u : TypedTree). Ok (Typed u)) (fault_of (place_in text at) (place_in text at) e) (typing_failed (place_in text at) (place_in text at) _ (λ (u : Tree). Ok (record { tree = tree_at a.stored t; ty = u })) e g x)
 
 pub checked_follows : {a b : Known} (text : Sources) (h : Here) (at u t : ℕ) → Grows a b → known.IsTermOf a t
     → Accepts (check a.lookups (context_at a.stored h.context.items) (tree_at a.stored t) (tree_at a.stored u)) tt
-    → Follows a b text h (name_after (site_in a text h) a.stored text (name.Check u) at (Term (tree_at a.stored t))) (given (value.Term t) frame.Same)
+    → Follows a b text h (name_answer (site_in a text h) a.stored text (name.Check u) at (Term (tree_at a.stored t))) (given (value.Term t) frame.Same)
 unfolding site_in
 checked_follows {a} {b} text h at u t g n x = record {
   kept = g;
@@ -115,14 +115,14 @@ checked_follows {a} {b} text h at u t g n x = record {
 }
 
 pub check_failed : {a b : Known} (text : Sources) (h : Here) (at u t : ℕ) (e : TypeFault) → Grows a b → IsFault (check a.lookups (context_at a.stored h.context.items) (tree_at a.stored t) (tree_at a.stored u)) e
-    → Failed a b (name_after (site_in a text h) a.stored text (name.Check u) at (Term (tree_at a.stored t))) (fault_of (place_in text at) (place_in text at) e)
+    → Failed a b (name_answer (site_in a text h) a.stored text (name.Check u) at (Term (tree_at a.stored t))) (fault_of (place_in text at) (place_in text at) e)
 unfolding site_in
 check_failed {a} text h at u t e g x =
     failed_then (λ (u : Tree). Ok (Term u)) (fault_of (place_in text at) (place_in text at) e) (typing_failed (place_in text at) (place_in text at) _ (λ _. Ok (tree_at a.stored t)) e g x)
 
 pub accepted_follows : {a b : Known} (text : Sources) (h : Here) (at t : ℕ) → Grows a b → IsTypeOf a t
     → Accepts (well_formed a.lookups (context_at a.stored h.context.items) (tree_at a.stored t)) tt
-    → Follows a b text h (name_after (site_in a text h) a.stored text name.Formed at (Formed (tree_at a.stored t))) (given (value.Formed t) frame.Same)
+    → Follows a b text h (name_answer (site_in a text h) a.stored text name.Formed at (Formed (tree_at a.stored t))) (given (value.Formed t) frame.Same)
 unfolding site_in
 accepted_follows {a} {b} text h at t g n x = record {
   kept = g;
@@ -131,7 +131,7 @@ accepted_follows {a} {b} text h at t g n x = record {
 }
 
 pub type_not_accepted : {a b : Known} (text : Sources) (h : Here) (at t : ℕ) (e : TypeFault) → Grows a b → IsFault (well_formed a.lookups (context_at a.stored h.context.items) (tree_at a.stored t)) e
-    → Failed a b (name_after (site_in a text h) a.stored text name.Formed at (Formed (tree_at a.stored t))) (fault_of (place_in text at) (place_in text at) e)
+    → Failed a b (name_answer (site_in a text h) a.stored text name.Formed at (Formed (tree_at a.stored t))) (fault_of (place_in text at) (place_in text at) e)
 unfolding site_in
 type_not_accepted {a} text h at t e g x =
     failed_then (λ (u : Tree). Ok (Formed u)) (fault_of (place_in text at) (place_in text at) e) (typing_failed (place_in text at) (place_in text at) _ (λ _. Ok (tree_at a.stored t)) e g x)

@@ -91,28 +91,28 @@ not_true z at u n = do
 abbrev pub not_tree : Site → Pos → Pos → Tree → Tree → Answer Tree
 not_tree z pos at u p = within_limits_at pos (negation p) >>= not_true z at u
 
-abbrev pub choice_after : Site → Stored → Sources → ChoiceRow → Branches → Meaning → Answer Meaning
-choice_after z s text First b =
+abbrev pub choice_answer : Site → Stored → Sources → ChoiceRow → Branches → Meaning → Answer Meaning
+choice_answer z s text First b =
     on_term (λ p. typed_answer (branch_first z b.early (places_of text b) (elab_at z text b.first) (elab_at z text b.second) p))
-choice_after z s text (Negation p) b =
+choice_answer z s text (Negation p) b =
     on_typed (λ a. typed_answer (branch_negation z b.early (places_of text b) (elab_at z text b.second) (tree_at s p) a))
-choice_after z s text (Second p a) b =
+choice_answer z s text (Second p a) b =
     on_term (λ n. typed_answer (branch_second z b.early (places_of text b) (elab_at z text b.second) (tree_at s p) (typed_at s a) n))
-choice_after z s text (Join p a n) b =
+choice_answer z s text (Join p a n) b =
     on_typed (λ c. typed_answer (join z b.early (places_of text b) (tree_at s p) (typed_at s a) (tree_at s n) c))
-choice_after z s text (Types p a n c) b = on_term (λ _. typed_answer (join_types z (places_of text b) (tree_at s p) (typed_at s a) (tree_at s n) (typed_at s c)))
-choice_after z s text (General p a n c) b = on_done (typed_answer (join_general z (places_of text b) (tree_at s p) (typed_at s a) (tree_at s n) (typed_at s c)))
-choice_after z s text (JoinFirst p a n c) b = on_formed (λ u. typed_answer (join_first z (places_of text b) (tree_at s p) (typed_at s a) (tree_at s n) (typed_at s c) u))
-choice_after z s text (JoinSecond p a n c u) b =
+choice_answer z s text (Types p a n c) b = on_term (λ _. typed_answer (join_types z (places_of text b) (tree_at s p) (typed_at s a) (tree_at s n) (typed_at s c)))
+choice_answer z s text (General p a n c) b = on_done (typed_answer (join_general z (places_of text b) (tree_at s p) (typed_at s a) (tree_at s n) (typed_at s c)))
+choice_answer z s text (JoinFirst p a n c) b = on_formed (λ u. typed_answer (join_first z (places_of text b) (tree_at s p) (typed_at s a) (tree_at s n) (typed_at s c) u))
+choice_answer z s text (JoinSecond p a n c u) b =
     on_term (λ _. typed_answer (join_second z (places_of text b) (tree_at s p) (typed_at s a) (tree_at s n) (typed_at s c) (tree_at s u)))
-choice_after z s text (Made p a c u) b = on_term (λ _. typed_answer (join_made (places_of text b) (tree_at s p) (typed_at s a) (typed_at s c) (tree_at s u)))
-choice_after z s text (CheckFirst u) b =
+choice_answer z s text (Made p a c u) b = on_term (λ _. typed_answer (join_made (places_of text b) (tree_at s p) (typed_at s a) (typed_at s c) (tree_at s u)))
+choice_answer z s text (CheckFirst u) b =
     on_term (λ p. term_answer (check_first (elab_at z text b.first) (elab_at z text b.second) (place_in text b.at) z.here (tree_at s u) p))
-choice_after z s text (CheckNegation u p) b =
+choice_answer z s text (CheckNegation u p) b =
     on_term (λ a. term_answer (check_negation (elab_at z text b.second) (place_in text b.at) z.here (tree_at s u) (tree_at s p) a))
-choice_after z s text (CheckSecond u p a) b =
+choice_answer z s text (CheckSecond u p a) b =
     on_term (λ n. term_answer (check_second (elab_at z text b.second) (place_in text b.at) z.here (tree_at s u) (tree_at s p) (tree_at s a) n))
-choice_after z s text (CheckLast p a) b = on_term (λ c. term_answer (check_last (place_in text b.at) (tree_at s p) (tree_at s a) c))
+choice_answer z s text (CheckLast p a) b = on_term (λ c. term_answer (check_last (place_in text b.at) (tree_at s p) (tree_at s a) c))
 
 abbrev pub choice_numbers : ChoiceRow → List (Sort × ℕ)
 choice_numbers First = []
@@ -129,12 +129,12 @@ choice_numbers (CheckNegation u p) = (OfType, u) ∷ (OfTerm, p) ∷ []
 choice_numbers (CheckSecond u p a) = (OfType, u) ∷ (OfTerm, p) ∷ (OfTerm, a) ∷ []
 choice_numbers (CheckLast p a) = (OfTerm, p) ∷ (OfTerm, a) ∷ []
 
-abbrev pub not_after : Site → Stored → Sources → NotRow → ℕ → ℕ → Meaning → Answer Meaning
-not_after z s text not_form.Tree pos at = on_term (λ p. typed_answer (negation_at (place_in text pos) p))
-not_after z s text (not_form.False u) pos at = on_term (λ p. term_answer (negation_as z.lookups z.here (place_in text pos) (place_in text at) (tree_at s u) p))
-not_after z s text (not_form.Negation u p) pos at = on_term (λ f. term_answer (not_tree z (place_in text pos) (place_in text at) (tree_at s u) (tree_at s p)))
-not_after z s text (not_form.True u) pos at = on_term (λ n. term_answer (not_true z (place_in text at) (tree_at s u) n))
-not_after z s text (not_form.Last n) pos at = on_term (λ t. Ok (Term (tree_at s n)))
+abbrev pub not_answer : Site → Stored → Sources → NotRow → ℕ → ℕ → Meaning → Answer Meaning
+not_answer z s text not_form.Tree pos at = on_term (λ p. typed_answer (negation_at (place_in text pos) p))
+not_answer z s text (not_form.False u) pos at = on_term (λ p. term_answer (negation_as z.lookups z.here (place_in text pos) (place_in text at) (tree_at s u) p))
+not_answer z s text (not_form.Negation u p) pos at = on_term (λ f. term_answer (not_tree z (place_in text pos) (place_in text at) (tree_at s u) (tree_at s p)))
+not_answer z s text (not_form.True u) pos at = on_term (λ n. term_answer (not_true z (place_in text at) (tree_at s u) n))
+not_answer z s text (not_form.Last n) pos at = on_term (λ t. Ok (Term (tree_at s n)))
 
 abbrev pub not_numbers : NotRow → List (Sort × ℕ)
 not_numbers not_form.Tree = []

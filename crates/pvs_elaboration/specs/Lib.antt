@@ -6,3 +6,4 @@ pub mod Apply
 pub mod Binder
 pub mod Equal
 pub mod Machine
+pub mod Listing

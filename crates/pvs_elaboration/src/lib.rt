@@ -8,9 +8,13 @@ mod equal;
 mod fault;
 mod frame;
 mod here;
+mod join;
+mod listing;
 mod machine;
+mod making;
 mod names;
 mod scope;
+mod steps;
 mod value;
 
 pub use fault::ElabFault;
