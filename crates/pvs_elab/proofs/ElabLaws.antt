@@ -94,8 +94,8 @@ module _ (s : Lookups) (names : Names) where
       let Q = IsTyped s h.context in
       holds_then (Types h) Q (x.infer h) _ (lx.infer h) (λ a ga.
       holds_then (Types h) Q (y.infer h) _ (ly.infer h) (λ b gb.
-      within_limits_then Q pos (Tup k a.tree b.tree) _ (λ w. within_limits_then Q pos (TPair k a.ty (lift_one b.ty)) _ (λ v. record {
-        given = gives_then (infer s h.context a.tree) _ a.ty _ ga (gives_then (infer s h.context b.tree) _ b.ty _ gb (gives_within (TPair k a.ty (lift_one b.ty)) v));
+      within_limits_then Q pos (Tup (suc (suc k)) a.tree b.tree) _ (λ w. within_limits_then Q pos (TPair (suc (suc k)) a.ty (lift_one b.ty)) _ (λ v. record {
+        given = gives_then (infer s h.context a.tree) _ a.ty _ ga (gives_then (infer s h.context b.tree) _ b.ty _ gb (gives_within (TPair (suc (suc k)) a.ty (lift_one b.ty)) v));
         own = λ c. refl;
       })))))
 
@@ -354,7 +354,7 @@ module _ (s : Lookups) (names : Names) where
   product_lawful k x a b pos la lb = kind_lawful pos _ (λ h.
       holds_then (Forms h) (Forms h) (a.formed h) _ (la.formed h) (λ c gc.
       holds_then (Forms (under_name x c h)) (Forms h) (b.formed (under_name x c h)) _ (lb.formed (under_name x c h)) (λ e ge.
-      within_limits_last (Forms h) pos (TPair k c e) (gives_then (well_formed s h.context c) _ tt _ gc ge))))
+      within_limits_last (Forms h) pos (TPair (suc (suc k)) c e) (gives_then (well_formed s h.context c) _ tt _ gc ge))))
 
   pub elab_lawful : (e : Phrase) → IsLawful s (elaboration.elab s names e)
   elab_lawful (Name x pos) = name_lawful x pos

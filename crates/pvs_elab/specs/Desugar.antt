@@ -1,6 +1,6 @@
 -- Surface trees with their abbreviations written out (PVS Language Reference, expressions and types): a fold of surface
 -- trees into phrases. Each variable that is bound gets its type, and operators become IF, `=` and FORALL.
-use Rattle.std.specs.Prelude.{ℕ, suc, ◌+◌, ◌-◌, ◌*◌, true, false, List, [], ◌∷◌, map, length, Option, Some, None, ⊤}
+use Rattle.std.specs.Prelude.{ℕ, ◌+◌, ◌-◌, ◌*◌, true, false, List, [], ◌∷◌, map, length, Option, Some, None, ⊤}
 use Rattle.pvs_base.specs.declared.place.Pos.{Pos}
 use Rattle.pvs_syntax.specs.Words.{spelling}
 use Rattle.pvs_syntax.specs.declared.expression.Expr.{Expr}
@@ -60,7 +60,7 @@ some_of pos body (b ∷ bs) = Not (All b.name (type_of b bs) (Not (some_of pos b
 abbrev pub domain : Pos → List Bound → Phrase
 domain pos [] = Other pos
 domain pos (b ∷ []) = type_of b []
-domain pos (b ∷ c ∷ bs) = Product (suc (suc (length bs))) b.name (type_of b (c ∷ bs)) (domain pos (c ∷ bs)) pos
+domain pos (b ∷ c ∷ bs) = Product (length bs) b.name (type_of b (c ∷ bs)) (domain pos (c ∷ bs)) pos
 
 abbrev pub names : List Bound → List Text
 names bs = map (λ b. b.name) bs
@@ -75,7 +75,7 @@ quantified binder_word.Lambda (b ∷ bs) body pos = Lambda (domain pos (b ∷ bs
 abbrev pub tuple : Pos → List Phrase → Phrase
 tuple pos [] = Other pos
 tuple pos (x ∷ []) = x
-tuple pos (x ∷ y ∷ xs) = Tuple (suc (suc (length xs))) x (tuple pos (y ∷ xs)) pos
+tuple pos (x ∷ y ∷ xs) = Tuple (length xs) x (tuple pos (y ∷ xs)) pos
 
 -- the same where it is written with parentheses of its own
 abbrev pub tuple_term : Pos → List Phrase → Phrase

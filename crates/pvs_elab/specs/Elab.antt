@@ -147,12 +147,13 @@ apply_elab s f x = term_elab s f.place λ h. do
   u ← within_limits_at f.place (put_in d.second a)
   pure (record { tree = t; ty = u })
 
+-- k + 2 parts
 abbrev pub tuple_elab : Lookups → ℕ → Elab → Elab → Pos → Elab
 tuple_elab s k x y pos = term_elab s pos λ h. do
   a ← x.infer h
   b ← y.infer h
-  t ← within_limits_at pos (Tup k a.tree b.tree)
-  u ← within_limits_at pos (TPair k a.ty (lift_one b.ty))
+  t ← within_limits_at pos (Tup (suc (suc k)) a.tree b.tree)
+  u ← within_limits_at pos (TPair (suc (suc k)) a.ty (lift_one b.ty))
   pure (record { tree = t; ty = u })
 
 -- the part with this number, counted from 1, of a tuple of so many parts
@@ -367,11 +368,12 @@ function_elab d xs b pos = type_elab pos λ h. do
   e ← b.formed (under_variable xs c h)
   within_limits_at pos (TFun c e)
 
+-- k + 2 parts
 abbrev pub product_elab : ℕ → Text → Elab → Elab → Pos → Elab
 product_elab k x a b pos = type_elab pos λ h. do
   c ← a.formed h
   e ← b.formed (under_name x c h)
-  within_limits_at pos (TPair k c e)
+  within_limits_at pos (TPair (suc (suc k)) c e)
 
 -- parentheses: a check is told their place; what they stand round may be a predicate where a type stands
 abbrev pub group_elab : Lookups → Elab → Pos → Elab

@@ -9,7 +9,7 @@ pub data Phrase : Type 0 where
   Name : Text → Pos → Phrase
   Truth : Bool → Pos → Phrase
   Apply : Phrase → Phrase → Phrase
-  -- how many parts, the first and the tuple of the others
+  -- a tuple of k + 2 parts: the first, and the tuple of the others
   Tuple : ℕ → Phrase → Phrase → Pos → Phrase
   -- the operand, and the number with its place
   Part : Phrase → ℕ → Pos → Phrase
@@ -29,6 +29,7 @@ pub data Phrase : Type 0 where
   Sub : Text → Phrase → Phrase → Pos → Phrase
   Predicate : Phrase → Pos → Phrase
   Function : Phrase → List Text → Phrase → Pos → Phrase
+  -- the type of the tuples of k + 2 parts: the name and the type of the first, and the type of the tuple of the others
   Product : ℕ → Text → Phrase → Phrase → Pos → Phrase
   -- a form that is not built
   Other : Pos → Phrase

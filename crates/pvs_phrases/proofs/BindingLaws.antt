@@ -1,5 +1,5 @@
 -- What bindings and parts of LETs say, and the layers of their lists.
-use Rattle.std.proofs.Common.{rules, ◌≡◌, ◌<◌, ◌∙◌, sym, ap, ap₂, subst, arith, ℕ, suc, List, [], ◌∷◌, length, drop, refl}
+use Rattle.std.proofs.Common.{rules, ◌≡◌, ◌<◌, ◌-◌, ◌∙◌, sym, ap, ap₂, subst, arith, ℕ, suc, List, [], ◌∷◌, length, drop, refl}
 use Rattle.std.specs.Prelude.{Some, None}
 use Rattle.std.proofs.lemmas.List.{length-drop}
 use Rattle.pvs_base.specs.declared.place.Pos.{Pos}
@@ -60,18 +60,19 @@ domain_one text pos (c ∷ []) cs b e h =
     ∙ ap₂ (λ x p. type_from x p (bounds text (c ∷ []))) (sym (bound_name text c)) (sym (bound_pos text c))
 
 more_components : (text : Text) (pos : Pos) (b : Binding) (cs : List Binding) → ¬ (length (b ∷ cs) ≡ 1)
-    → Product (length (b ∷ cs)) (bound_of text b).name (type_from (bound_of text b).name (bound_of text b).pos (bounds text (b ∷ cs))) (domain pos (bounds text cs)) pos
+    → Product (length (b ∷ cs) - 2) (bound_of text b).name (type_from (bound_of text b).name (bound_of text b).pos (bounds text (b ∷ cs))) (domain pos (bounds text cs)) pos
     ≡ domain pos (bounds text (b ∷ cs))
 more_components text pos b [] h = absurd (h refl)
 more_components text pos b (c ∷ cs) h =
-    ap (λ n. Product (suc (suc n)) (bound_of text b).name (type_from (bound_of text b).name (bound_of text b).pos (bounds text (b ∷ c ∷ cs))) (domain pos (bounds text (c ∷ cs))) pos) (sym (length_bounds text cs))
+    let e : length (b ∷ c ∷ cs) - 2 ≡ length (bounds text cs) = omega (arith, length_bounds text cs) in
+    ap (λ n. Product n (bound_of text b).name (type_from (bound_of text b).name (bound_of text b).pos (bounds text (b ∷ c ∷ cs))) (domain pos (bounds text (c ∷ cs))) pos) e
 
 pub domain_more : (text : Text) (pos : Pos) (bs cs : List Binding) (b : Binding) (n : ℕ) → bs ≡ b ∷ cs → n ≡ length bs → ¬ (length bs ≡ 1)
-    → Product n (spelling text (out-Binding b).word) (type_from (spelling text (out-Binding b).word) (out-Binding b).word.pos (bounds text bs)) (domain pos (bounds text cs)) pos
+    → Product (n - 2) (spelling text (out-Binding b).word) (type_from (spelling text (out-Binding b).word) (out-Binding b).word.pos (bounds text bs)) (domain pos (bounds text cs)) pos
     ≡ domain pos (bounds text bs)
 domain_more text pos bs cs b n e i h =
-    ap₂ (λ m ds. Product m (spelling text (out-Binding b).word) (type_from (spelling text (out-Binding b).word) (out-Binding b).word.pos (bounds text ds)) (domain pos (bounds text cs)) pos) (i ∙ ap length e) e
-    ∙ ap₂ (λ x p. Product (length (b ∷ cs)) x (type_from x p (bounds text (b ∷ cs))) (domain pos (bounds text cs)) pos) (sym (bound_name text b)) (sym (bound_pos text b))
+    ap₂ (λ m ds. Product (m - 2) (spelling text (out-Binding b).word) (type_from (spelling text (out-Binding b).word) (out-Binding b).word.pos (bounds text ds)) (domain pos (bounds text cs)) pos) (i ∙ ap length e) e
+    ∙ ap₂ (λ x p. Product (length (b ∷ cs) - 2) x (type_from x p (bounds text (b ∷ cs))) (domain pos (bounds text cs)) pos) (sym (bound_name text b)) (sym (bound_pos text b))
     ∙ more_components text pos b cs (subst (λ ds. ¬ (length ds ≡ 1)) e h)
     ∙ ap (λ ds. domain pos (bounds text ds)) (sym e)
 

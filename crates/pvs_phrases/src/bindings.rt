@@ -137,7 +137,6 @@ pub(crate) fn domain_layer<'a>(
 }
 
 /// The type of the tuples of several components.
-#[tactic(auto, using(crate::proofs::BindingLaws::domain_more))]
 pub(crate) fn product_layer<'a>(
     text: &'a [u8],
     bindings: &'a Items<Binding>,
@@ -151,7 +150,7 @@ pub(crate) fn product_layer<'a>(
         Some(first) => {
             let word = first.value.word;
             Layer::Binary(
-                Binary::Product(first.left, spelling_of(text, word), pos),
+                Binary::Product(first.left - 2, spelling_of(text, word), pos),
                 Part::TypeFrom(word, bindings, from),
                 Part::Domain(bindings, first.from, pos),
             )

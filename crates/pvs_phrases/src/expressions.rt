@@ -152,7 +152,7 @@ fn tuple_layer<'a>(text: &[u8], parts: &'a Items<Expr>, from: usize, pos: Pos) -
 {
     match next(parts, from) {
         Some(first) => Layer::Binary(
-            Binary::Tuple(first.left, Place::At(pos)),
+            Binary::Tuple(first.left - 2, Place::At(pos)),
             Part::Expr(first.value),
             Part::Arguments(parts, first.from, pos),
         ),

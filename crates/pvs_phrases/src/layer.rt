@@ -53,7 +53,7 @@ pub enum Binary<'a> {
     /// The function and its argument.
     Apply,
 
-    /// The first component and the tuple of the others, with the number of all components.
+    /// The first component and the tuple of the others, with the number of components beyond two.
     Tuple(usize, Place<'a>),
 
     /// The two sides.
@@ -78,7 +78,7 @@ pub enum Binary<'a> {
     Function(&'a Items<Binding>, Pos),
 
     /// The type of the first component, which has this name, and the type of the tuples of the
-    /// others, with the number of all components.
+    /// others, with the number of components beyond two.
     Product(usize, &'a [u8], Pos),
 }
 

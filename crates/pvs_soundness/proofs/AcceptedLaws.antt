@@ -16,9 +16,10 @@ use Rattle.pvs_terms.specs.declared.shape.Projection.TheVariants.{First, Second}
 use Rattle.pvs_terms.proofs.TreeLaws.{tree_eq-true}
 use Rattle.pvs_subst.specs.Contexts.{Assumptions, Variable, Hypothesis}
 use Rattle.pvs_sig.specs.Lookups.{Lookups}
-use Rattle.pvs_types.specs.Outcome.{Conditions, Outcome, Refused, Accepted, outcome_after, ◌>>=◌, ◌>>◌, pure, from_option, from_result, within_limits}
+use Rattle.pvs_types.specs.Outcome.{Conditions, Outcome, Refused, Accepted, outcome_after, ◌>>=◌, ◌>>◌, pure, uses, from_option, from_result, within_limits}
 use Rattle.pvs_types.specs.Forms.{head}
-use Rattle.pvs_types.specs.Typing.{Typing, Components, negation, function_of, binder_type, lift_option, term_typing, type_typing, leaf_typing, variable_infer, name_typing, predicate_check, dependent_well_formed, lambda_infer, bind_typing, is_forall, apply_infer, tuple_infer, equal_infer, join_infer, project_infer, if_infer, if_check, if_typing, typing}
+use Rattle.pvs_types.specs.Symbols.{symbols}
+use Rattle.pvs_types.specs.Typing.{Typing, Components, negation, function_of, binder_type, lift_option, term_typing, type_typing, leaf_typing, variable_infer, constant_infer, name_typing, predicate_check, dependent_well_formed, lambda_infer, bind_typing, is_forall, apply_infer, tuple_infer, equal_infer, join_infer, project_infer, if_infer, if_check, if_typing, typing}
 use Rattle.pvs_types.proofs.OutcomeLaws.{within_cases}
 use Rattle.pvs_soundness.specs.Laws.{WhereAccepted}
 
@@ -55,13 +56,13 @@ if_step P true o u h k = h refl
 if_step P false o u h k = k refl
 
 -- What accepted terms and accepted types have in a context, where each node has it whose parts have it.
-pub record IsKept (T Y : Assumptions → Tree → Type 0) : Type 0 where
+pub record IsKept (s : Lookups) (T Y : Assumptions → Tree → Type 0) : Type 0 where
   pub truth : (g : Assumptions) → Y g TBool
   pub yes : (g : Assumptions) → T g True
   pub no : (g : Assumptions) → T g False
   pub variable : (g : Assumptions) (n : ℕ) (a : Tree) → binder_type g n ≡ Some a → T g (Var n)
-  pub constant : (g : Assumptions) (r : Ref) → T g (Const r)
-  pub name : (g : Assumptions) (r : Ref) → Y g (TName r)
+  pub constant : (g : Assumptions) (r : Ref) (a : Tree) → s.type_of r ≡ Some a → T g (Const r)
+  pub name : (g : Assumptions) (r : Ref) → s.is_type r ≡ true → Y g (TName r)
   pub subtype : (g : Assumptions) (a p : Tree) → Y g a → T (Variable a ∷ g) p → Y g (TSub a p)
   pub function : (g : Assumptions) (a b : Tree) → Y g a → Y (Variable a ∷ g) b → Y g (TFun a b)
   pub product : (g : Assumptions) (k : ℕ) (a b : Tree) → Y g a → Y (Variable a ∷ g) b → Y g (TPair k a b)
@@ -73,7 +74,7 @@ pub record IsKept (T Y : Assumptions → Tree → Type 0) : Type 0 where
   pub projection : (g : Assumptions) (o : Projection) (a : Tree) → T g a → T g (Project o a)
   pub choice : (g : Assumptions) (t a b : Tree) → T g t → T (Hypothesis t ∷ g) a → T (Hypothesis (negation t) ∷ g) b → T g (If t a b)
 
-module _ (s : Lookups) (T Y : Assumptions → Tree → Type 0) (kept : IsKept T Y) where
+module _ (s : Lookups) (T Y : Assumptions → Tree → Type 0) (kept : IsKept s T Y) where
   pub record Keeps (t : Tree) (x : Typing) : Type 0 where
     pub infer : (g : Assumptions) → WhereAccepted (T g t) (x.infer g)
     pub check : (g : Assumptions) (a : Tree) → WhereAccepted (T g t) (x.check g a)
@@ -104,9 +105,16 @@ module _ (s : Lookups) (T Y : Assumptions → Tree → Type 0) (kept : IsKept T 
   variable_kept : (n : ℕ) (g : Assumptions) → WhereAccepted (T g (Var n)) (variable_infer n g)
   variable_kept n g = option_accepted (T g (Var n)) Unknown (binder_type g n) (suc n) within_limits (λ a h. kept.variable g n a h)
 
+  found_accepted : (P : Type 0) (o : Option Tree) → ((a : Tree) → o ≡ Some a → P) → WhereAccepted P (from_option Unknown o >>= within_limits)
+  found_accepted P None h = tt
+  found_accepted P (Some a) h = second_step P (pure a) within_limits (λ b. holding P (within_limits b) (h a refl))
+
+  constant_kept : (r : Ref) (g : Assumptions) → WhereAccepted (T g (Const r)) (constant_infer s r g)
+  constant_kept r g = second_step (T g (Const r)) (uses (symbols (Const r))) _ (λ _. found_accepted (T g (Const r)) (s.type_of r) (λ a h. kept.constant g r a h))
+
   name_kept : (o : Sort) (r : Ref) → Keeps (Name o r) (name_typing s o r)
-  name_kept OfType r = type_kept (TName r) _ (λ g. holding (Y g (TName r)) _ (kept.name g r))
-  name_kept OfTerm r = term_kept (Const r) _ (λ g. holding (T g (Const r)) _ (kept.constant g r))
+  name_kept OfType r = type_kept (TName r) _ (λ g. if_step (Y g (TName r)) (s.is_type r) _ _ (λ h. holding (Y g (TName r)) (uses (symbols (TName r))) (kept.name g r h)) (λ h. tt))
+  name_kept OfTerm r = term_kept (Const r) _ (constant_kept r)
 
   predicate_kept : (R : Type 0) (a p : Tree) (x y : Typing) (g : Assumptions) → (Y g a → T (Variable a ∷ g) p → R) → Keeps a x → Keeps p y
       → WhereAccepted R (predicate_check a x y g)

@@ -8,6 +8,7 @@ pub mod MentionedLaws
 pub mod WithinLaws
 pub mod ClosedLaws
 pub mod KindSound
+pub mod StandingLaws
 pub mod DeclaredLaws
 pub mod TheorySound
 pub mod ReadLaws

@@ -13,10 +13,10 @@ use Rattle.pvs_syntax.specs.declared.unit.Decl.{Decl}
 use Rattle.pvs_sig.specs.Lookups.{Lookups, IsOrdered}
 use Rattle.pvs_sig.specs.LookupsOf.{lookups_of, kind_lookup, constant_type, is_type_kind, is_nonempty_kind}
 use Rattle.pvs_sig.specs.Ranks.{type_body}
-use Rattle.pvs_sig.specs.References.{EachRef}
+use Rattle.pvs_sig.specs.References.{KindEach}
 use Rattle.pvs_sig.specs.Signature.{Signature, Entry, Kind, TypeSig, ConstSig, VarSig, FormulaSig, kind_at, entry_kind}
-use Rattle.pvs_sig.specs.Development.{Development, IsDevelopment, IsSignatureOver, In, kind_of, seen_by, formals_seen}
-use Rattle.pvs_sig.specs.Scope.{scope, IsVisible, of_formal, of_own, of_import}
+use Rattle.pvs_sig.specs.Development.{Development, IsDevelopment, IsKindOver, IsBefore, IsSignatureOver, In, kind_of, seen_by, formals_seen}
+use Rattle.pvs_sig.specs.Scope.{IsVisible, of_formal, of_own, of_import}
 use Rattle.pvs_sig.proofs.ScopeLaws.{in_scope}
 use Rattle.pvs_sig.proofs.RankLaws.{lookups_are_ordered}
 use Rattle.pvs_names.specs.declared.kind.NameKind.{NameKind}
@@ -32,42 +32,45 @@ use Rattle.pvs_elab.specs.Formula.{FreeVariable, binders_of}
 use Rattle.pvs_elab.specs.Declaration.{CheckedEntry, ElaboratedDecl, declaration, decl_place, elab_decl}
 use Rattle.pvs_elab.specs.Laws.{Holds}
 use Rattle.pvs_elab.proofs.DeclarationLaws.{declared_is}
+use Rattle.pvs_soundness.specs.Vocabulary.{Vocabulary, IsOver}
+use Rattle.pvs_soundness.specs.Within.{is_own_below, entries_before}
 use Rattle.pvs_soundness.specs.Local.{AgreesWith, IsClosedSet, EachAssumed}
 use Rattle.pvs_soundness.specs.Mentioned.{EachName}
 use Rattle.pvs_soundness.specs.Checked.{OwesNothing, IsFormedBy, IsCheckedBy, IsDefinedBy, plainly, under_parameter, AreFormedBy, IsKindBy}
 use Rattle.pvs_soundness.specs.Read.{IsAcceptedSignature}
-use Rattle.pvs_soundness.specs.Theory.{CheckedTheory, declared_name, with_entry, lookups_after, names_after, without_conditions, with_elaborated, with_declaration, with_declarations, empty_theory, StaysOver}
+use Rattle.pvs_soundness.specs.Theory.{CheckedTheory, declared_name, with_entry, lookups_after, names_after, without_conditions, with_elaborated, with_declaration, with_declarations, empty_theory}
 use Rattle.pvs_soundness.proofs.WellSortedLaws.{accepted_sorted}
 use Rattle.pvs_soundness.proofs.LocalTyping.{answered_alike}
 use Rattle.pvs_soundness.proofs.DeclaredLaws.{declaration_sound}
 use Rattle.pvs_soundness.proofs.KindSound.{was_accepted}
+use Rattle.pvs_soundness.proofs.StandingLaws.{kind_over, mentions_before, plain_stands, accepted_stands}
 use Rattle.pvs_soundness.proofs.TheorySound.{Below, each_later, set_closed}
 
 -- What typing accepted by some look-ups, it accepts by others that agree.
-module _ (P : Ref → Type 0) (s u : Lookups) (ordered : IsOrdered s) (ordered' : IsOrdered u) (agree : AgreesWith P s u) (closed : IsClosedSet P s) where
-  formed_alike : (a : Tree) → IsFormedBy P s [] a → IsFormedBy P u [] a
+module _ (V : Vocabulary) (s u : Lookups) (ordered : IsOrdered s) (ordered' : IsOrdered u) (agree : AgreesWith V s u) (closed : IsClosedSet V s) where
+  formed_alike : (a : Tree) → IsFormedBy V s [] a → IsFormedBy V u [] a
   formed_alike a h =
       let sorted = (was_accepted _ (well_formed s [] a) tt h.used h.accepted (accepted_sorted s [] a a).2).1 in
-      record { each = h.each; used = h.used; accepted = sym (answered_alike P s u ordered ordered' agree closed [] tt a a sorted h.each h.each).well_formed ∙ h.accepted }
+      record { each = h.each; used = h.used; accepted = sym (answered_alike V s u ordered ordered' agree closed [] tt a a sorted h.each h.each).well_formed ∙ h.accepted }
 
-  checked_alike : (g : Assumptions) → EachAssumed P g → (t a : Tree) → IsCheckedBy P s g t a → IsCheckedBy P u g t a
+  checked_alike : (g : Assumptions) → EachAssumed V g → (t a : Tree) → IsCheckedBy V s g t a → IsCheckedBy V u g t a
   checked_alike g q t a h =
       let sorted = (was_accepted _ (check s g t a) tt h.used h.accepted (accepted_sorted s g t a).1).1 in
-      record { each = h.each; type_each = h.type_each; used = h.used; accepted = sym (answered_alike P s u ordered ordered' agree closed g q t a sorted h.each h.type_each).check ∙ h.accepted }
+      record { each = h.each; type_each = h.type_each; used = h.used; accepted = sym (answered_alike V s u ordered ordered' agree closed g q t a sorted h.each h.type_each).check ∙ h.accepted }
 
-  defined_alike : (t a : Tree) → IsDefinedBy P s t a → IsDefinedBy P u t a
+  defined_alike : (t a : Tree) → IsDefinedBy V s t a → IsDefinedBy V u t a
   defined_alike t a (plainly h) = plainly (checked_alike [] tt t a h)
   defined_alike t a (under_parameter c b r ea et hc h) = under_parameter c b r ea et (formed_alike c hc) (checked_alike (Variable c ∷ []) (hc.each, tt) b r h)
 
-  variables_alike : (bs : List FreeVariable) → AreFormedBy P s bs → AreFormedBy P u bs
+  variables_alike : (bs : List FreeVariable) → AreFormedBy V s bs → AreFormedBy V u bs
   variables_alike [] h = tt
   variables_alike (b ∷ bs) h = (formed_alike b.ty h.0, variables_alike bs h.1)
 
-  each_binder : (bs : List FreeVariable) → AreFormedBy P s bs → EachAssumed P (binders_of bs)
+  each_binder : (bs : List FreeVariable) → AreFormedBy V s bs → EachAssumed V (binders_of bs)
   each_binder [] h = tt
   each_binder (b ∷ bs) h = (h.0.each, each_binder bs h.1)
 
-  kind_alike : (k : Kind) → IsKindBy P s k → IsKindBy P u k
+  kind_alike : (k : Kind) → IsKindBy V s k → IsKindBy V u k
   kind_alike (TypeSig b None) h = tt
   kind_alike (TypeSig b (Some a)) h = formed_alike a h
   kind_alike (ConstSig a None) h = formed_alike a h
@@ -131,15 +134,12 @@ module _ (d : Development) (s : Signature) (plain : IsAcceptedSignature d s) whe
   seen_own r (of_own n l e) = subst (Below Size) (sym e) (lt-ltb n Size l)
   seen_own r (of_import x q h l k b e) = absurd (subst (In x) plain.imports h)
 
-  own_each : (o : Ref → Tree) → ((r : Ref) → Below Size r → EachRef (Below Size) (o r)) → (r : Ref) → In r (scope d s Size) → EachRef (Below Size) (o r)
-  own_each o f r h = f r (seen_own r (in_scope d s Size r h))
-
-  name_below : (r : Ref) → Below Size r → EachRef (Below Size) (TName r)
+  name_below : (r : Ref) → Below Size r → IsOver (entries_before Size) (TName r)
   name_below (Own n) h = (h, tt)
   name_below (Formal n) h = cc
   name_below (Inst th n xs) h = cc
 
-  constant_below : (r : Ref) → Below Size r → EachRef (Below Size) (Const r)
+  constant_below : (r : Ref) → Below Size r → IsOver (entries_before Size) (Const r)
   constant_below (Own n) h = (h, tt)
   constant_below (Formal n) h = cc
   constant_below (Inst th n xs) h = cc
@@ -150,7 +150,7 @@ module _ (d : Development) (s : Signature) (plain : IsAcceptedSignature d s) whe
   plain_below : (kind : NameKind) → (kind ≡ FormulaName → ⊥) → (x : Text) (r : Ref) → resolve_plain d s Size kind x ≡ Ok r → Below Size r
   plain_below kind n x r e = resolved_below kind n x r (found_in_profile x (resolve d s Size kind None x) r e)
 
-  types_below : (x : Text) (r : Ref) → (names_at d s Size).type_named x ≡ Ok r → EachRef (Below Size) (TName r)
+  types_below : (x : Text) (r : Ref) → (names_at d s Size).type_named x ≡ Ok r → IsOver (entries_before Size) (TName r)
   types_below x r e = name_below r (plain_below TypeName (λ h. cc) x r e)
 
   constant_is : (x : Text) (q r : Ref) (o : Option Kind) → constant_kind x q o ≡ Ok r → q ≡ r
@@ -164,14 +164,14 @@ module _ (d : Development) (s : Signature) (plain : IsAcceptedSignature d s) whe
   constant_of x (Err c) k r e = absurd (cc)
   constant_of x (Ok p) k r e = subst (Below Size) (constant_is x p r (kind_of d s p) e) (plain_below Constant (λ h. cc) x p k)
 
-  constants_below : (x : Text) (r : Ref) → (names_at d s Size).constant_named x ≡ Ok r → EachRef (Below Size) (Const r)
+  constants_below : (x : Text) (r : Ref) → (names_at d s Size).constant_named x ≡ Ok r → IsOver (entries_before Size) (Const r)
   constants_below x r e = constant_below r (constant_of x (resolve_plain d s Size Constant x) refl r e)
 
   -- a VAR is an own entry, whose type was accepted
-  formed_later : (k : ℕ) (t : Tree) → k < Size → IsFormedBy (Below k) (lookups_of d s) [] t → IsFormedBy (Below Size) (lookups_of d s) [] t
+  formed_later : (k : ℕ) (t : Tree) → k < Size → IsFormedBy (entries_before k) (lookups_of d s) [] t → IsFormedBy (entries_before Size) (lookups_of d s) [] t
   formed_later k t l h = record { each = each_later k Size (omega (arith, l)) t h.each; used = h.used; accepted = h.accepted }
 
-  variable_entry : (q : Ref) (t : Tree) → Below Size q → kind_of d s q ≡ Some (VarSig t) → IsFormedBy (Below Size) (lookups_of d s) [] t
+  variable_entry : (q : Ref) (t : Tree) → Below Size q → kind_of d s q ≡ Some (VarSig t) → IsFormedBy (entries_before Size) (lookups_of d s) [] t
   variable_entry (Own k) t p e = formed_later k t (ltb-true k Size p) (plain.entries k (VarSig t) e)
   variable_entry (Formal k) t p e = cc
   variable_entry (Inst th k xs) t p e = cc
@@ -186,14 +186,14 @@ module _ (d : Development) (s : Signature) (plain : IsAcceptedSignature d s) whe
   own_found : (x : Text) (q : Ref) → find is_own Constant x (visible_members d s Size) ≡ Ok q → resolve d s Size Constant None x ≡ Ok q
   own_found x q e = ap (λ r. or_else (or_else r (find is_imported Constant x (visible_members d s Size))) (any_formula d s Constant x)) e
 
-  variable_of : (x : Text) (q : Result Ref Code) → find is_own Constant x (visible_members d s Size) ≡ q → (v : TypedVariable) → (q >>= (λ r. variable_kind r (kind_of d s r))) ≡ Ok v → IsFormedBy (Below Size) (lookups_of d s) [] v.ty
+  variable_of : (x : Text) (q : Result Ref Code) → find is_own Constant x (visible_members d s Size) ≡ q → (v : TypedVariable) → (q >>= (λ r. variable_kind r (kind_of d s r))) ≡ Ok v → IsFormedBy (entries_before Size) (lookups_of d s) [] v.ty
   variable_of x (Err c) k v e = absurd (cc)
   variable_of x (Ok q) k v e = variable_entry q v.ty (resolved_below Constant (λ h. cc) x q (own_found x q k)) (variable_is q (kind_of d s q) v e)
 
-  variables_formed : (x : Text) (v : TypedVariable) → (names_at d s Size).variable_named x ≡ Ok v → IsFormedBy (Below Size) (lookups_of d s) [] v.ty
+  variables_formed : (x : Text) (v : TypedVariable) → (names_at d s Size).variable_named x ≡ Ok v → IsFormedBy (entries_before Size) (lookups_of d s) [] v.ty
   variables_formed x v e = variable_of x (find is_own Constant x (visible_members d s Size)) refl v e
 
-  names_each : EachName (Below Size) (names_at d s Size)
+  names_each : EachName (entries_before Size) (names_at d s Size)
   names_each = record { types = types_below; constants = constants_below; variables = λ x v e. (variables_formed x v e).each }
 
   -- with one more entry
@@ -203,7 +203,7 @@ module _ (d : Development) (s : Signature) (plain : IsAcceptedSignature d s) whe
   kind_before : (e : Entry) (k : ℕ) → k < Size → kind_at (Grown e) k ≡ kind_at s k
   kind_before e k l = ap (option_map entry_kind) (earlier_item s.entries e k l)
 
-  grown_agrees : (e : Entry) (k : ℕ) → k ≤ Size → AgreesWith (Below k) (lookups_of d s) (lookups_of d (Grown e))
+  grown_agrees : (e : Entry) (k : ℕ) → k ≤ Size → AgreesWith (entries_before k) (lookups_of d s) (lookups_of d (Grown e))
   grown_agrees e k l = record {
     types = λ r h. by_own (λ o. constant_type o) r h;
     bodies = λ r h. by_own (λ o. type_body o) r h;
@@ -216,75 +216,86 @@ module _ (d : Development) (s : Signature) (plain : IsAcceptedSignature d s) whe
       by_own f (Formal j) h = cc
       by_own f (Inst th j xs) h = cc
 
-  module _ (development : IsDevelopment d) (over : IsSignatureOver d s) where
+  -- what holds of each entry before, and of one more
+  grown_entry : (Q : ℕ → Kind → Type 0) (e : Entry) → ((k : ℕ) (x : Kind) → k < Size → kind_at s k ≡ Some x → Q k x) → Q Size e.kind
+      → (k : ℕ) (x : Kind) → kind_at (Grown e) k ≡ Some x → Q k x
+  grown_entry Q e before last k x q = go (slice_get (s.entries ++ e ∷ []) k) refl q
+    where
+      at : (y : Entry) → entry_kind y ≡ x → (slice_get s.entries k ≡ Some y) ⊎ ((k ≡ Size) × (e ≡ y)) → Q k x
+      at y same (inl a) = before k x (is_item s.entries y k a) (ap (option_map entry_kind) a ∙ ap Some same)
+      at y same (inr b) = subst (λ j. Q j x) (sym b.0) (subst (Q Size) (ap entry_kind b.1 ∙ same) last)
+
+      go : (o : Option Entry) → slice_get (s.entries ++ e ∷ []) k ≡ o → option_map entry_kind o ≡ Some x → Q k x
+      go None k' r = cc
+      go (Some y) k' r = let same : entry_kind y ≡ x = cc in at y same (last_item s.entries e y k k')
+
+  module _ (e : Entry) (h : IsKindBy (entries_before Size) (lookups_of d s) e.kind) where
+    stands_at : (k : ℕ) → k ≤ Size → (x : Kind) → IsKindBy (entries_before k) (lookups_of d s) x → IsKindOver d (Grown e) x × ((f : ℕ) → KindEach (IsBefore f k) x)
+    stands_at k l x w =
+        let same : (j : ℕ) → j < k → kind_at s j ≡ kind_at (Grown e) j = λ j b. sym (kind_before e j (omega (arith, b, l))) in
+        (kind_over d s (Grown e) k same x w, λ f. mentions_before d s (Grown e) k same f x w)
+
+    grown_stands : IsSignatureOver d (Grown e)
+    grown_stands = plain_stands d (Grown e) plain.formals plain.imports
+        (grown_entry (λ k x. IsKindOver d (Grown e) x × ((f : ℕ) → KindEach (IsBefore f k) x)) e
+        (λ k x l q. stands_at k (omega (arith, l)) x (plain.entries k x q)) (stands_at Size (omega arith) e.kind h))
+
+  module _ (development : IsDevelopment d) where
     ordered : IsOrdered (lookups_of d s)
-    ordered = lookups_are_ordered d s development over
+    ordered = lookups_are_ordered d s development (accepted_stands d s plain)
 
-    grown_entry : (e : Entry) → IsSignatureOver d (Grown e) → IsKindBy (Below Size) (lookups_of d s) e.kind → (k : ℕ) (x : Kind)
-        → (slice_get s.entries k ≡ slice_get s.entries k) → kind_at (Grown e) k ≡ Some x → IsKindBy (Below k) (lookups_of d (Grown e)) x
-    grown_entry e over' h k x z q = go (slice_get (s.entries ++ e ∷ []) k) refl q
+    grown_plain : (e : Entry) → IsKindBy (entries_before Size) (lookups_of d s) e.kind → IsAcceptedSignature d (Grown e)
+    grown_plain e h = record {
+      formals = plain.formals;
+      imports = plain.imports;
+      entries = grown_entry (λ k x. IsKindBy (entries_before k) (lookups_of d (Grown e)) x) e
+          (λ k x l q. alike k (omega (arith, l)) x (plain.entries k x q)) (alike Size (omega arith) e.kind h);
+    }
       where
-        alike : (j : ℕ) → j ≤ Size → (y : Kind) → IsKindBy (Below j) (lookups_of d s) y → IsKindBy (Below j) (lookups_of d (Grown e)) y
-        alike j l y w = kind_alike (Below j) (lookups_of d s) (lookups_of d (Grown e)) ordered (lookups_are_ordered d (Grown e) development over') (grown_agrees e j l) (set_closed d s development over plain j) y w
+        alike : (j : ℕ) → j ≤ Size → (y : Kind) → IsKindBy (entries_before j) (lookups_of d s) y → IsKindBy (entries_before j) (lookups_of d (Grown e)) y
+        alike j l y w = kind_alike (entries_before j) (lookups_of d s) (lookups_of d (Grown e)) ordered (lookups_are_ordered d (Grown e) development (grown_stands e h)) (grown_agrees e j l) (set_closed d s development plain j) y w
 
-        at : (y : Entry) → entry_kind y ≡ x → (slice_get s.entries k ≡ Some y) ⊎ ((k ≡ Size) × (e ≡ y)) → IsKindBy (Below k) (lookups_of d (Grown e)) x
-        at y same (inl a) = let l = is_item s.entries y k a in alike k (omega (arith, l)) x (plain.entries k x (ap (option_map entry_kind) a ∙ ap Some same))
-        at y same (inr b) = subst (λ j. IsKindBy (Below j) (lookups_of d (Grown e)) x) (sym b.0)
-            (alike Size (omega arith) x (subst (IsKindBy (Below Size) (lookups_of d s)) (ap entry_kind b.1 ∙ same) h))
+    holds_at : (text : Text) (x : Decl) (e : CheckedEntry) → declaration (lookups_of d s) (names_at d s Size) text x ≡ Ok e → OwesNothing e.typing → IsKindBy (entries_before Size) (lookups_of d s) e.kind
+    holds_at text x e f c = (subst (Holds (λ (e : CheckedEntry). OwesNothing e.typing → IsKindBy (entries_before Size) (lookups_of d s) e.kind)) f
+        (declaration_sound (is_own_below Size) (lookups_of d s) (names_at d s Size) ordered (set_closed d s development plain Size) names_each variables_formed text x)) c
 
-        go : (o : Option Entry) → slice_get (s.entries ++ e ∷ []) k ≡ o → option_map entry_kind o ≡ Some x → IsKindBy (Below k) (lookups_of d (Grown e)) x
-        go None k' r = cc
-        go (Some y) k' r = let same : entry_kind y ≡ x = cc in at y same (last_item s.entries e y k k')
-
-    grown_plain : (e : Entry) → IsSignatureOver d (Grown e) → IsKindBy (Below Size) (lookups_of d s) e.kind → IsAcceptedSignature d (Grown e)
-    grown_plain e over' h = record { formals = plain.formals; imports = plain.imports; entries = λ k x q. grown_entry e over' h k x refl q }
-
-    holds_at : (text : Text) (x : Decl) (e : CheckedEntry) → declaration (lookups_of d s) (names_at d s Size) text x ≡ Ok e → OwesNothing e.typing → IsKindBy (Below Size) (lookups_of d s) e.kind
-    holds_at text x e f c = (subst (Holds (λ (e : CheckedEntry). OwesNothing e.typing → IsKindBy (Below Size) (lookups_of d s) e.kind)) f
-        (declaration_sound (Below Size) (lookups_of d s) (names_at d s Size) ordered (set_closed d s development over plain Size) names_each variables_formed text x)) c
-
-module _ (d : Development) (development : IsDevelopment d) (text : Text) (t : CheckedTheory) (plain : IsAcceptedSignature d t.signature) (over : IsSignatureOver d t.signature) (x : Decl) where
+module _ (d : Development) (development : IsDevelopment d) (text : Text) (t : CheckedTheory) (plain : IsAcceptedSignature d t.signature) (x : Decl) where
   -- the entry of a declaration that was elaborated without a condition
   entry_plain : (e : ElaboratedDecl) → elab_decl (lookups_after d t) (names_after d t) text x ≡ Ok e → e.conditions ≡ []
-      → IsSignatureOver d (with_elaborated text x t e).signature → IsAcceptedSignature d (with_elaborated text x t e).signature
-  entry_plain e h none over' =
+      → IsAcceptedSignature d (with_elaborated text x t e).signature
+  entry_plain e h none =
       let i = declared_is (lookups_after d t) (names_after d t) text x e h in
       let clear : OwesNothing i.entered.typing = record { used = i.used; accepted = i.typing ∙ ap (λ cs. Accepted tt cs i.used) none } in
-      let kind = holds_at d t.signature plain development over text x i.entered i.found clear in
+      let kind = holds_at d t.signature plain development text x i.entered i.found clear in
       subst (λ o. IsAcceptedSignature d (with_entry (declared_name text x) o t.signature)) (sym i.entry)
-      (grown_plain d t.signature plain development over (record { name = declared_name text x; kind = i.entered.kind })
-      (subst (λ o. IsSignatureOver d (with_entry (declared_name text x) o t.signature)) i.entry over') kind)
+      (grown_plain d t.signature plain development (record { name = declared_name text x; kind = i.entered.kind }) kind)
 
-  settled : (e : ElaboratedDecl) (cs : Conditions) (u : CheckedTheory) → (without_conditions (decl_place x) e cs >>= (λ y. Ok (with_elaborated text x t y))) ≡ Ok u
+  no_conditions : (e : ElaboratedDecl) (cs : Conditions) (u : CheckedTheory) → (without_conditions (decl_place x) e cs >>= (λ y. Ok (with_elaborated text x t y))) ≡ Ok u
       → (cs ≡ []) × (with_elaborated text x t e ≡ u)
-  settled e [] u h = (refl, cc)
-  settled e (c ∷ cs) u h = cc
+  no_conditions e [] u h = (refl, cc)
+  no_conditions e (c ∷ cs) u h = cc
 
-  given : (r : Answer ElaboratedDecl) → elab_decl (lookups_after d t) (names_after d t) text x ≡ r → (u : CheckedTheory)
-      → (r >>= (λ e. without_conditions (decl_place x) e e.conditions >>= (λ y. Ok (with_elaborated text x t y)))) ≡ Ok u → IsSignatureOver d u.signature → IsAcceptedSignature d u.signature
-  given (Err f) k u h over' = cc
-  given (Ok e) k u h over' =
-      let z = settled e e.conditions u h in
-      subst (λ (w : CheckedTheory). IsAcceptedSignature d w.signature) z.1 (entry_plain e k z.0 (subst (λ (w : CheckedTheory). IsSignatureOver d w.signature) (sym z.1) over'))
+  elaborated_plain : (r : Answer ElaboratedDecl) → elab_decl (lookups_after d t) (names_after d t) text x ≡ r → (u : CheckedTheory)
+      → (r >>= (λ e. without_conditions (decl_place x) e e.conditions >>= (λ y. Ok (with_elaborated text x t y)))) ≡ Ok u → IsAcceptedSignature d u.signature
+  elaborated_plain (Err f) k u h = cc
+  elaborated_plain (Ok e) k u h =
+      let z = no_conditions e e.conditions u h in
+      subst (λ (w : CheckedTheory). IsAcceptedSignature d w.signature) z.1 (entry_plain e k z.0)
 
-  pub declared_plain : (u : CheckedTheory) → with_declaration d text t x ≡ Ok u → IsSignatureOver d u.signature → IsAcceptedSignature d u.signature
-  declared_plain u h over' = given (elab_decl (lookups_after d t) (names_after d t) text x) refl u h over'
+  pub declared_plain : (u : CheckedTheory) → with_declaration d text t x ≡ Ok u → IsAcceptedSignature d u.signature
+  declared_plain u h = elaborated_plain (elab_decl (lookups_after d t) (names_after d t) text x) refl u h
 
 -- a theory of which nothing is read
 pub unread_plain : (d : Development) (name : Text) → IsAcceptedSignature d (empty_theory name).signature
 unread_plain d name = record { formals = refl; imports = refl; entries = λ k x h. cc }
 
--- with all its declarations, where each signature on the way stands over the theories
-stays_first : (d : Development) (text : Text) (t : CheckedTheory) (xs : List Decl) → StaysOver d text t xs → IsSignatureOver d t.signature
-stays_first d text t [] h = h
-stays_first d text t (x ∷ xs) h = h.0
-
-pub all_plain : (d : Development) → IsDevelopment d → (text : Text) (t : CheckedTheory) → IsAcceptedSignature d t.signature → (xs : List Decl) → StaysOver d text t xs
-    → (u : CheckedTheory) → with_declarations d text t xs ≡ Ok u → IsAcceptedSignature d u.signature × IsSignatureOver d u.signature
-all_plain d development text t plain [] over u h = let z : t ≡ u = cc in subst (λ (w : CheckedTheory). IsAcceptedSignature d w.signature × IsSignatureOver d w.signature) z (plain, over)
-all_plain d development text t plain (x ∷ xs) over u h = go (with_declaration d text t x) refl (λ w o p q. all_plain d development text w p xs o u q) h
+-- with all its declarations
+pub all_plain : (d : Development) → IsDevelopment d → (text : Text) (t : CheckedTheory) → IsAcceptedSignature d t.signature → (xs : List Decl)
+    → (u : CheckedTheory) → with_declarations d text t xs ≡ Ok u → IsAcceptedSignature d u.signature
+all_plain d development text t plain [] u h = let z : t ≡ u = cc in subst (λ (w : CheckedTheory). IsAcceptedSignature d w.signature) z plain
+all_plain d development text t plain (x ∷ xs) u h = go (with_declaration d text t x) refl (λ w p q. all_plain d development text w p xs u q) h
   where
-    go : (r : Answer CheckedTheory) → with_declaration d text t x ≡ r → ((w : CheckedTheory) → StaysOver d text w xs → IsAcceptedSignature d w.signature → with_declarations d text w xs ≡ Ok u → IsAcceptedSignature d u.signature × IsSignatureOver d u.signature)
-        → (r >>= (λ w. with_declarations d text w xs)) ≡ Ok u → IsAcceptedSignature d u.signature × IsSignatureOver d u.signature
+    go : (r : Answer CheckedTheory) → with_declaration d text t x ≡ r → ((w : CheckedTheory) → IsAcceptedSignature d w.signature → with_declarations d text w xs ≡ Ok u → IsAcceptedSignature d u.signature)
+        → (r >>= (λ w. with_declarations d text w xs)) ≡ Ok u → IsAcceptedSignature d u.signature
     go (Err f) k later q = cc
-    go (Ok w) k later q = later w (over.1 w k) (declared_plain d development text t plain over.0 x w k (stays_first d text w xs (over.1 w k))) q
+    go (Ok w) k later q = later w (declared_plain d development text t plain x w k) q

@@ -1,6 +1,7 @@
 -- What typing accepts in a context has its free indices below the number of variables that the context binds.
 use Rattle.std.proofs.Common.{◌≡◌, ℕ, zero, suc, ◌<◌, ◌≤◌, [], ◌∷◌, Some, arith}
 use Rattle.pvs_terms.specs.Tree.{Tree, Leaf, Var, Name, Bind, Join, Project, If, free_below, IsClosed}
+use Rattle.pvs_sig.specs.Lookups.{Lookups}
 use Rattle.pvs_subst.specs.Contexts.{Assumptions, Variable, Hypothesis}
 use Rattle.pvs_types.specs.Typing.{binder_type}
 use Rattle.pvs_soundness.specs.Scoped.{IsScoped, variables_in}
@@ -17,14 +18,14 @@ bound (Hypothesis p ∷ g) n a h = bound g n a h
 abbrev pub InScope : Assumptions → Tree → Type 0
 InScope g t = IsScoped (variables_in g) t
 
-pub scope_kept : IsKept InScope InScope
-scope_kept = record {
+pub scope_kept : (s : Lookups) → IsKept s InScope InScope
+scope_kept s = record {
   truth = λ g. tt;
   yes = λ g. tt;
   no = λ g. tt;
   variable = bound;
-  constant = λ g r. tt;
-  name = λ g r. tt;
+  constant = λ g r a e. tt;
+  name = λ g r e. tt;
   subtype = λ g a p h k. (h, k);
   function = λ g a b h k. (h, k);
   product = λ g n a b h k. (h, k);
@@ -47,10 +48,10 @@ free_within n (Join o a b) h = let p = free_within n a h.0 in let q = free_withi
 free_within n (Project o a) h = free_within n a h
 free_within n (If a b c) h = let p = free_within n a h.0 in let q = free_within n b h.1 in let r = free_within n c h.2 in omega arith
 
-closed_within : (t : Tree) → IsScoped 0 t → IsClosed t
+pub closed_within : (t : Tree) → IsScoped 0 t → IsClosed t
 closed_within t h = let p = free_within 0 t h in omega arith
 
 pub accepted_closed : AcceptedTreesAreClosed
 accepted_closed s t a =
-    let x = typing_kept s InScope InScope scope_kept t in
+    let x = typing_kept s InScope InScope (scope_kept s) t in
     (weaker _ _ _ (closed_within t) (x.infer []), weaker _ _ _ (closed_within t) (x.check [] a), weaker _ _ _ (closed_within t) (x.well_formed []))

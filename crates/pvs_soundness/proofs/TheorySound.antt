@@ -3,22 +3,29 @@ use Rattle.std.proofs.Common.{◌≡◌, ◌⊎◌, inl, inr, ℕ, zero, suc, �
 use Rattle.std.specs.Prelude.{nat_lt}
 use Rattle.std.proofs.lemmas.Bool.{lt-ltb, ltb-true, ltb-false}
 use Rattle.pvs_terms.specs.Tree.{Tree, Leaf, Var, Name, Bind, Join, Project, If, Ref, Own, Formal, Inst, Trees, none, more}
+use Rattle.pvs_terms.specs.declared.shape.Binder.{Binder}
+use Rattle.pvs_terms.specs.declared.shape.Binder.TheVariants.{Subtype, Function, Product, Lambda}
+use Rattle.pvs_terms.specs.declared.shape.Joint.{Joint}
+use Rattle.pvs_terms.specs.declared.shape.Joint.TheVariants.{Apply, Tuple, Equal}
+use Rattle.pvs_terms.specs.declared.shape.Projection.{Projection}
+use Rattle.pvs_terms.specs.declared.shape.Projection.TheVariants.{First, Second}
 use Rattle.pvs_sig.specs.Lookups.{Lookups, IsOrdered}
-use Rattle.pvs_sig.specs.References.{EachRef, EachWithin, EachOf}
 use Rattle.pvs_sig.specs.Signature.{Signature, Kind, TypeSig, ConstSig, VarSig, FormulaSig, kind_at}
-use Rattle.pvs_sig.specs.Development.{Development, IsDevelopment, IsSignatureOver}
+use Rattle.pvs_sig.specs.Development.{Development, IsDevelopment}
 use Rattle.pvs_sig.specs.Ranks.{type_body}
 use Rattle.pvs_sig.specs.LookupsOf.{lookups_of, constant_type, is_type_kind, is_nonempty_kind}
 use Rattle.pvs_sig.proofs.RankLaws.{lookups_are_ordered}
 use Rattle.pvs_sem.specs.Value.{Value, IsMember, IsAscending}
 use Rattle.pvs_sem.specs.Meaning.{Model, Env, mean}
 use Rattle.pvs_types.specs.Soundness.{IsModelOf, IsValued}
+use Rattle.pvs_soundness.specs.Vocabulary.{Vocabulary, BinderArity, JointArity, ProjectionArity, IsOver, IsReferenceOver, AreOver, vocabulary_of}
 use Rattle.pvs_soundness.specs.Local.{IsClosedSet}
-use Rattle.pvs_soundness.specs.Within.{is_own_below, lookups_within}
+use Rattle.pvs_soundness.specs.Within.{is_own_below, entries_before, lookups_within}
 use Rattle.pvs_soundness.specs.Fits.{nowhere, IsInsideKind}
 use Rattle.pvs_soundness.specs.Checked.{IsFormedBy, IsKindBy}
 use Rattle.pvs_soundness.specs.Read.{IsAcceptedSignature, FitsBefore}
 use Rattle.pvs_soundness.proofs.ClosedLaws.{mean_closed}
+use Rattle.pvs_soundness.proofs.StandingLaws.{accepted_stands}
 use Rattle.pvs_soundness.proofs.WithinLaws.{found_within}
 use Rattle.pvs_soundness.proofs.KindSound.{kind_inside, constant_valued, formed_scoped}
 
@@ -30,31 +37,47 @@ own_later k n (Own j) l h = let b = ltb-true j k h in lt-ltb j n (omega (arith, 
 own_later k n (Formal j) l h = cc
 own_later k n (Inst th j xs) l h = cc
 
--- references of a tree with a weaker property
-mutual
-  pub each_weaker : (P Q : Ref → Type 0) → ((r : Ref) → P r → Q r) → (t : Tree) → EachRef P t → EachRef Q t
-  each_weaker P Q w (Leaf o) h = tt
-  each_weaker P Q w (Var n) h = tt
-  each_weaker P Q w (Name o r) h = (w r h.0, within_weaker P Q w r h.1)
-  each_weaker P Q w (Bind o a b) h = (each_weaker P Q w a h.0, each_weaker P Q w b h.1)
-  each_weaker P Q w (Join o a b) h = (each_weaker P Q w a h.0, each_weaker P Q w b h.1)
-  each_weaker P Q w (Project o a) h = each_weaker P Q w a h
-  each_weaker P Q w (If a b c) h = (each_weaker P Q w a h.0, each_weaker P Q w b h.1, each_weaker P Q w c h.2)
+-- a tree over some references is over more of them, with tuples of the same sizes
+module _ (p q : Ref → Bool) (wider : (r : Ref) → p r ≡ true → q r ≡ true) where
+  binder_wider : (o : Binder) → BinderArity (vocabulary_of p) o → BinderArity (vocabulary_of q) o
+  binder_wider Subtype h = tt
+  binder_wider Function h = tt
+  binder_wider (Product k) h = h
+  binder_wider Lambda h = tt
 
-  within_weaker : (P Q : Ref → Type 0) → ((r : Ref) → P r → Q r) → (r : Ref) → EachWithin P r → EachWithin Q r
-  within_weaker P Q w (Own n) h = tt
-  within_weaker P Q w (Formal n) h = tt
-  within_weaker P Q w (Inst th n xs) h = all_weaker P Q w xs h
+  joint_wider : (o : Joint) → JointArity (vocabulary_of p) o → JointArity (vocabulary_of q) o
+  joint_wider Apply h = tt
+  joint_wider (Tuple k) h = h
+  joint_wider Equal h = tt
 
-  all_weaker : (P Q : Ref → Type 0) → ((r : Ref) → P r → Q r) → (xs : Trees) → EachOf P xs → EachOf Q xs
-  all_weaker P Q w none h = tt
-  all_weaker P Q w (more x xs) h = (each_weaker P Q w x h.0, all_weaker P Q w xs h.1)
+  projection_wider : (o : Projection) → ProjectionArity (vocabulary_of p) o → ProjectionArity (vocabulary_of q) o
+  projection_wider (First k) h = h
+  projection_wider (Second k) h = h
+
+  mutual
+    over_wider : (t : Tree) → IsOver (vocabulary_of p) t → IsOver (vocabulary_of q) t
+    over_wider (Leaf o) h = tt
+    over_wider (Var n) h = tt
+    over_wider (Name o r) h = (wider r h.0, reference_wider r h.1)
+    over_wider (Bind o a b) h = (over_wider a h.0, over_wider b h.1, binder_wider o h.2)
+    over_wider (Join o a b) h = (over_wider a h.0, over_wider b h.1, joint_wider o h.2)
+    over_wider (Project o a) h = (over_wider a h.0, projection_wider o h.1)
+    over_wider (If a b c) h = (over_wider a h.0, over_wider b h.1, over_wider c h.2)
+
+    reference_wider : (r : Ref) → IsReferenceOver (vocabulary_of p) r → IsReferenceOver (vocabulary_of q) r
+    reference_wider (Own n) h = tt
+    reference_wider (Formal n) h = tt
+    reference_wider (Inst th n xs) h = all_wider xs h
+
+    all_wider : (xs : Trees) → AreOver (vocabulary_of p) xs → AreOver (vocabulary_of q) xs
+    all_wider none h = tt
+    all_wider (more x xs) h = (over_wider x h.0, all_wider xs h.1)
 
 abbrev pub Below : ℕ → Ref → Type 0
 Below k r = is_own_below k r ≡ true
 
-pub each_later : (k n : ℕ) → k ≤ n → (t : Tree) → EachRef (Below k) t → EachRef (Below n) t
-each_later k n l = each_weaker (Below k) (Below n) (λ r. own_later k n r l)
+pub each_later : (k n : ℕ) → k ≤ n → (t : Tree) → IsOver (entries_before k) t → IsOver (entries_before n) t
+each_later k n l = over_wider (is_own_below k) (is_own_below n) (λ r. own_later k n r l)
 
 before_or_at : (j n : ℕ) → j < suc n → (j < n) ⊎ (j ≡ n)
 before_or_at j n l = go (nat_lt j n) refl
@@ -64,41 +87,41 @@ before_or_at j n l = go (nat_lt j n) refl
     go false e = let b = ltb-false j n e in inr (omega (arith, b, l))
 
 -- the type of a constant that typing accepted
-type_formed : (P : Ref → Type 0) (s : Lookups) (a : Tree) (body : Option Tree) → IsKindBy P s (ConstSig a body) → IsFormedBy P s [] a
-type_formed P s a None h = h
-type_formed P s a (Some t) h = h.0
+type_formed : (V : Vocabulary) (s : Lookups) (a : Tree) (body : Option Tree) → IsKindBy V s (ConstSig a body) → IsFormedBy V s [] a
+type_formed V s a None h = h
+type_formed V s a (Some t) h = h.0
 
-module _ (d : Development) (s : Signature) (development : IsDevelopment d) (over : IsSignatureOver d s) (plain : IsAcceptedSignature d s) where
-  ordered : IsOrdered (lookups_of d s)
-  ordered = lookups_are_ordered d s development over
+module _ (d : Development) (s : Signature) (development : IsDevelopment d) (plain : IsAcceptedSignature d s) where
+  pub ordered : IsOrdered (lookups_of d s)
+  ordered = lookups_are_ordered d s development (accepted_stands d s plain)
 
-  constant_each : (j k : ℕ) (x : Option Kind) (a : Tree) → j < k → kind_at s j ≡ x → constant_type x ≡ Some a → EachRef (Below k) a
+  constant_each : (j k : ℕ) (x : Option Kind) (a : Tree) → j < k → kind_at s j ≡ x → constant_type x ≡ Some a → IsOver (entries_before k) a
   constant_each j k (Some (ConstSig t body)) a l e h =
-      let z : t ≡ a = cc in subst (EachRef (Below k)) z (each_later j k (omega (arith, l)) t (type_formed (Below j) (lookups_of d s) t body (plain.entries j (ConstSig t body) e)).each)
+      let z : t ≡ a = cc in subst (IsOver (entries_before k)) z (each_later j k (omega (arith, l)) t (type_formed (entries_before j) (lookups_of d s) t body (plain.entries j (ConstSig t body) e)).each)
   constant_each j k (Some (TypeSig b body)) a l e h = cc
   constant_each j k (Some (VarSig t)) a l e h = cc
   constant_each j k (Some (FormulaSig c t o)) a l e h = cc
   constant_each j k None a l e h = cc
 
-  body_each : (j k : ℕ) (x : Option Kind) (a : Tree) → j < k → kind_at s j ≡ x → type_body x ≡ Some a → EachRef (Below k) a
+  body_each : (j k : ℕ) (x : Option Kind) (a : Tree) → j < k → kind_at s j ≡ x → type_body x ≡ Some a → IsOver (entries_before k) a
   body_each j k (Some (TypeSig b None)) a l e h = cc
-  body_each j k (Some (TypeSig b (Some t))) a l e h = let z : t ≡ a = cc in subst (EachRef (Below k)) z (each_later j k (omega (arith, l)) t (plain.entries j (TypeSig b (Some t)) e).each)
+  body_each j k (Some (TypeSig b (Some t))) a l e h = let z : t ≡ a = cc in subst (IsOver (entries_before k)) z (each_later j k (omega (arith, l)) t (plain.entries j (TypeSig b (Some t)) e).each)
   body_each j k (Some (ConstSig t body)) a l e h = cc
   body_each j k (Some (VarSig t)) a l e h = cc
   body_each j k (Some (FormulaSig c t o)) a l e h = cc
   body_each j k None a l e h = cc
 
-  types_closed : (k : ℕ) (r : Ref) (a : Tree) → Below k r → (lookups_of d s).type_of r ≡ Some a → EachRef (Below k) a
+  types_closed : (k : ℕ) (r : Ref) (a : Tree) → Below k r → (lookups_of d s).type_of r ≡ Some a → IsOver (entries_before k) a
   types_closed k (Own j) a p h = constant_each j k (kind_at s j) a (below j k p) refl h
   types_closed k (Formal j) a p h = cc
   types_closed k (Inst th j xs) a p h = cc
 
-  bodies_closed : (k : ℕ) (r : Ref) (a : Tree) → Below k r → (lookups_of d s).body_of r ≡ Some a → EachRef (Below k) a
+  bodies_closed : (k : ℕ) (r : Ref) (a : Tree) → Below k r → (lookups_of d s).body_of r ≡ Some a → IsOver (entries_before k) a
   bodies_closed k (Own j) a p h = body_each j k (kind_at s j) a (below j k p) refl h
   bodies_closed k (Formal j) a p h = cc
   bodies_closed k (Inst th j xs) a p h = cc
 
-  pub set_closed : (k : ℕ) → IsClosedSet (Below k) (lookups_of d s)
+  pub set_closed : (k : ℕ) → IsClosedSet (entries_before k) (lookups_of d s)
   set_closed k = record { types = types_closed k; bodies = bodies_closed k }
 
   module _ (m : Model) (sets : (r : Ref) → IsAscending (m.meaning r).set) where
@@ -126,7 +149,7 @@ module _ (d : Development) (s : Signature) (development : IsDevelopment d) (over
     definition_is j k (Some (TypeSig b (Some t))) a i f l e h =
         let z : t ≡ a = cc in
         subst (λ y. (m.meaning (Own j)).set ≡ (mean m y i).set) z
-        ((f j (TypeSig b (Some t)) l e).1 ∙ ap (λ x. x.set) (mean_closed m t nowhere i (formed_scoped (Below j) (lookups_of d s) t (plain.entries j (TypeSig b (Some t)) e))))
+        ((f j (TypeSig b (Some t)) l e).1 ∙ ap (λ x. x.set) (mean_closed m t nowhere i (formed_scoped (entries_before j) (lookups_of d s) t (plain.entries j (TypeSig b (Some t)) e))))
     definition_is j k (Some (ConstSig t body)) a i f l e h = cc
     definition_is j k (Some (VarSig t)) a i f l e h = cc
     definition_is j k (Some (FormulaSig c t o)) a i f l e h = cc
@@ -189,7 +212,7 @@ module _ (d : Development) (s : Signature) (development : IsDevelopment d) (over
     value_at n f v (Some (ConstSig t body)) k a e h =
         let z : t ≡ a = cc in
         subst (λ y. IsMember (m.meaning (Own n)).value (mean m y e).set) z
-        (constant_valued (is_own_below n) (lookups_of d s) ordered (set_closed n) m (model_is n (earlier n f)) (valued_ref n v) (Own n) t body (plain.entries n (ConstSig t body) k) (f n (ConstSig t body) (omega arith) k) e)
+        (constant_valued (entries_before n) (lookups_of d s) ordered (set_closed n) m (model_is n (earlier n f)) (valued_ref n v) (Own n) t body (plain.entries n (ConstSig t body) k) (f n (ConstSig t body) (omega arith) k) e)
     value_at n f v (Some (TypeSig b body)) k a e h = cc
     value_at n f v (Some (VarSig t)) k a e h = cc
     value_at n f v (Some (FormulaSig c t o)) k a e h = cc
@@ -206,4 +229,4 @@ module _ (d : Development) (s : Signature) (development : IsDevelopment d) (over
 
     -- an entry is inside where the model fits those before it
     pub entry_inside : (i : ℕ) (x : Kind) → kind_at s i ≡ Some x → FitsBefore m s i → IsInsideKind m x
-    entry_inside i x e f = kind_inside (is_own_below i) (lookups_of d s) ordered (set_closed i) m (model_is i f) (valued_ref i (are_valued i f)) x (plain.entries i x e)
+    entry_inside i x e f = kind_inside (entries_before i) (lookups_of d s) ordered (set_closed i) m (model_is i f) (valued_ref i (are_valued i f)) x (plain.entries i x e)

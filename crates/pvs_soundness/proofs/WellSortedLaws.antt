@@ -6,6 +6,7 @@ use Rattle.pvs_terms.specs.declared.shape.Plain.TheVariants.{BoolType, Yes, No}
 use Rattle.pvs_terms.specs.declared.shape.Sort.TheVariants.{OfType, OfTerm}
 use Rattle.pvs_terms.specs.declared.shape.Binder.TheVariants.{Subtype, Function, Product, Lambda}
 use Rattle.pvs_terms.specs.declared.shape.Joint.TheVariants.{Apply, Tuple, Equal}
+use Rattle.pvs_sig.specs.Lookups.{Lookups}
 use Rattle.pvs_subst.specs.Contexts.{Assumptions}
 use Rattle.pvs_types.specs.ProperTerms.{IsProperTerm}
 use Rattle.pvs_soundness.specs.WellSorted.{IsWellSorted}
@@ -35,14 +36,14 @@ Term g t = IsTerm t × IsWellSorted t
 abbrev pub Type' : Assumptions → Tree → Type 0
 Type' g a = IsType a × IsWellSorted a
 
-pub sorts_kept : IsKept Term Type'
-sorts_kept = record {
+pub sorts_kept : (s : Lookups) → IsKept s Term Type'
+sorts_kept s = record {
   truth = λ g. (refl, tt);
   yes = λ g. (refl, tt);
   no = λ g. (refl, tt);
   variable = λ g n a h. (refl, tt);
-  constant = λ g r. (refl, tt);
-  name = λ g r. (refl, tt);
+  constant = λ g r a e. (refl, tt);
+  name = λ g r e. (refl, tt);
   subtype = λ g a p h k. (refl, (h.0, k.0, h.1, k.1));
   function = λ g a b h k. (refl, (h.0, k.0, h.1, k.1));
   product = λ g n a b h k. (refl, (h.0, k.0, h.1, k.1));
@@ -56,4 +57,4 @@ sorts_kept = record {
 }
 
 pub accepted_sorted : AcceptedTreesAreWellSorted
-accepted_sorted s g t a = let x = typing_kept s Term Type' sorts_kept t in (x.infer g, x.check g a, x.well_formed g)
+accepted_sorted s g t a = let x = typing_kept s Term Type' (sorts_kept s) t in (x.infer g, x.check g a, x.well_formed g)

@@ -2,6 +2,7 @@
 use Rattle.std.proofs.Common.{◌≡◌, Bool, true, false, ◌&&◌, cond, Option, Some, None, refl, ap, sym}
 use Rattle.pvs_terms.specs.Tree.{Tree, Ref}
 use Rattle.pvs_sig.specs.Lookups.{Lookups, IsOrdered}
+use Rattle.pvs_soundness.specs.Vocabulary.{Vocabulary}
 use Rattle.pvs_soundness.specs.Local.{AgreesWith}
 use Rattle.pvs_soundness.specs.Within.{lookups_within}
 
@@ -10,8 +11,8 @@ pub found_within : (b : Bool) (o : Option Tree) (t : Tree) → cond b o None ≡
 found_within true o t h = (refl, h)
 found_within false o t h = cc
 
-pub within_agrees : (p : Ref → Bool) (s : Lookups) → AgreesWith (λ r. p r ≡ true) s (lookups_within p s)
-within_agrees p s = record {
+pub within_agrees : (V : Vocabulary) (s : Lookups) → AgreesWith V s (lookups_within V.has_reference s)
+within_agrees V s = record {
   types = λ r h. ap (λ b. cond b (s.type_of r) None) (sym h);
   bodies = λ r h. ap (λ b. cond b (s.body_of r) None) (sym h);
   names = λ r h. ap (λ b. b && s.is_type r) (sym h);

@@ -1,3 +1,4 @@
+pub mod Vocabulary
 pub mod Scoped
 pub mod WellSorted
 pub mod Local

@@ -1,5 +1,5 @@
 -- What a theory declares: each declaration is elaborated over those before it, and becomes an entry (CSL-97-2, theories).
-use Rattle.std.specs.Prelude.{◌≡◌, List, [], ◌∷◌, ◌++◌, length, Option, Some, None, Ok}
+use Rattle.std.specs.Prelude.{List, [], ◌∷◌, ◌++◌, length, Option, Some, None}
 use Rattle.pvs_base.specs.Answers.{◌>>=◌}
 use Rattle.pvs_base.specs.declared.place.Pos.{Pos}
 use Rattle.pvs_base.specs.declared.code.Code.TheVariants.{OutOfProfile}
@@ -8,7 +8,7 @@ use Rattle.pvs_syntax.specs.Words.{spelling}
 use Rattle.pvs_syntax.specs.declared.unit.Decl.{Decl}
 use Rattle.pvs_syntax.specs.declared.unit.Decl.TheVariants as decl
 use Rattle.pvs_sig.specs.Signature.{Signature, Kind}
-use Rattle.pvs_sig.specs.Development.{Development, IsSignatureOver}
+use Rattle.pvs_sig.specs.Development.{Development}
 use Rattle.pvs_sig.specs.Lookups.{Lookups}
 use Rattle.pvs_sig.specs.LookupsOf.{lookups_of}
 use Rattle.pvs_types.specs.Outcome.{Conditions}
@@ -63,8 +63,3 @@ with_declarations d text t (x ∷ xs) = with_declaration d text t x >>= (λ u. w
 -- a theory of which nothing is read
 abbrev pub empty_theory : Text → CheckedTheory
 empty_theory name = record { signature = record { name = name; formals = []; entries = []; imports = [] }; uses = [] }
-
--- each signature on the way stands over the theories
-abbrev pub StaysOver : Development → Text → CheckedTheory → List Decl → Type 0
-StaysOver d text t [] = IsSignatureOver d t.signature
-StaysOver d text t (x ∷ xs) = IsSignatureOver d t.signature × ((u : CheckedTheory) → with_declaration d text t x ≡ Ok u → StaysOver d text u xs)
