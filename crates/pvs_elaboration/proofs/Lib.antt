@@ -1,5 +1,6 @@
 pub mod KnownLaws
 pub mod MachineLaws
+pub mod ListingLaws
 pub mod StepLaws
 pub mod ChoiceLaws
 pub mod JoinLaws

@@ -150,21 +150,21 @@ equal_stays z text (equal.RightSide p q t) o g n = rw (tree_stays g n.0, tree_st
 equal_stays z text (equal.LeftSide p t u) o g n = rw (tree_stays g n.0, tree_stays g n.1.0, tree_stays g n.1.1.0, tree_stays g n.1.1.1.0) refl
 equal_stays z text (equal.Last t) o g n = rw (tree_stays g n.0) refl
 
-frame_stays : {a b : Known} (z : Site) (text : Sources) (f : Frame) → Grows a b → AreKnownNumbers a (frame_numbers f) → frame_answer z b.stored text f ≡ frame_answer z a.stored text f
-frame_stays z text frame.Same g n = refl
-frame_stays z text (frame.Coerce large at u) g n = rw (tree_stays g n.0) refl
-frame_stays z text (frame.WithType u) g n = rw (tree_stays g n.0) refl
-frame_stays z text (frame.WithTerm t) g n = rw (tree_stays g n.0) refl
-frame_stays z text (frame.Choice f br) g n = choice_stays z text f br g n
-frame_stays z text (frame.Not f pos at) g n = not_stays z text f pos at g n
-frame_stays z text (frame.Name f at) g n = name_stays z text f at g n
-frame_stays z text (frame.Apply f o) g n = apply_stays z text f o g n
-frame_stays z text (frame.Binder f o) g n = binder_stays z text f o g n
-frame_stays z text (frame.Equal f o) g n = equal_stays z text f o g n
+frame_stays_at : {a b : Known} (z : Site) (text : Sources) (f : Frame) → Grows a b → AreKnownNumbers a (frame_numbers f) → frame_answer z b.stored text f ≡ frame_answer z a.stored text f
+frame_stays_at z text frame.Same g n = refl
+frame_stays_at z text (frame.Coerce large at u) g n = rw (tree_stays g n.0) refl
+frame_stays_at z text (frame.WithType u) g n = rw (tree_stays g n.0) refl
+frame_stays_at z text (frame.WithTerm t) g n = rw (tree_stays g n.0) refl
+frame_stays_at z text (frame.Choice f br) g n = choice_stays z text f br g n
+frame_stays_at z text (frame.Not f pos at) g n = not_stays z text f pos at g n
+frame_stays_at z text (frame.Name f at) g n = name_stays z text f at g n
+frame_stays_at z text (frame.Apply f o) g n = apply_stays z text f o g n
+frame_stays_at z text (frame.Binder f o) g n = binder_stays z text f o g n
+frame_stays_at z text (frame.Equal f o) g n = equal_stays z text f o g n
 
 pub frame_stays : {a b : Known} (text : Sources) (h : Here) (f : Frame) → Grows a b → IsHere a h → AreKnownNumbers a (frame_numbers f)
     → frame_answer (site_in b text h) b.stored text f ≡ frame_answer (site_in a text h) a.stored text f
-frame_stays {a} {b} text h f g i n = frame_stays (site_in b text h) text f g n ∙ ap (λ z. frame_answer z a.stored text f) (site_kept text h g i)
+frame_stays {a} {b} text h f g i n = frame_stays_at (site_in b text h) text f g n ∙ ap (λ z. frame_answer z a.stored text f) (site_kept text h g i)
 
 pub then_alike : {A B : Type 0} (r : Answer A) (f g : A → Answer B) → ((x : A) → f x ≡ g x) → (r >>= f) ≡ (r >>= g)
 then_alike (Ok x) f g e = e x
@@ -176,10 +176,10 @@ entries_stay {a} {b} text h (entry.Use f ∷ es) m g i n =
     ap (λ (q : Meaning → Answer Meaning). q m >>= entries_answer b text h es) (frame_stays text h f g i n.0) ∙ then_alike (frame_answer (site_in a text h) a.stored text f m) (entries_answer b text h es) (entries_answer a text h es) (λ v. entries_stay text h es v g i n.1)
 entries_stay text h (entry.Leave o ∷ es) m g i n = entries_stay text o es m g n.0 n.1
 
-pub entries_stay : {a b : Known} (es : List Entry) → Grows a b → AreKnownEntries a es → AreKnownEntries b es
-entries_stay [] g n = tt
-entries_stay (entry.Use f ∷ es) g n = (numbers_stay (frame_numbers f) g n.0, entries_stay es g n.1)
-entries_stay (entry.Leave o ∷ es) g n = (here_stays g n.0, entries_stay es g n.1)
+pub known_entries_stay : {a b : Known} (es : List Entry) → Grows a b → AreKnownEntries a es → AreKnownEntries b es
+known_entries_stay [] g n = tt
+known_entries_stay (entry.Use f ∷ es) g n = (numbers_stay (frame_numbers f) g n.0, known_entries_stay es g n.1)
+known_entries_stay (entry.Leave o ∷ es) g n = (here_stays g n.0, known_entries_stay es g n.1)
 
 -- What follows a step, added to a machine.
 
@@ -219,7 +219,7 @@ added_machine {k} {m} {n} {o} i x a = record {
 
 -- the same machine where the store has grown
 pub machine_stays : {a b : Known} {m : Machine} → Grows a b → IsMachine a m → IsMachine b m
-machine_stays {m = m} g i = record { here = here_stays g i.here; entries = entries_stay (reverse m.entries.items) g i.entries }
+machine_stays {m = m} g i = record { here = here_stays g i.here; entries = known_entries_stay (reverse m.entries.items) g i.entries }
 
 -- a step at the place of the machine, and what is left
 pub turn_goes : {a b : Known} (text : Sources) (m : Machine) (r : Answer Meaning) (n : Next) (o : Machine) → IsMachine a m → Follows a b text m.here r n → IsAdded m n o

@@ -2,13 +2,9 @@
 use Rattle.std.specs.Prelude.{◌≡◌, List, [], ◌∷◌, ◌++◌, map}
 use Rattle.std.specs.Borrow.{Bor}
 use Rattle.pvs_base.specs.declared.place.Pos.{Pos}
-use Rattle.pvs_base.specs.declared.code.Code.{Code}
 use Rattle.pvs_terms.specs.Tree.{Text}
 use Rattle.pvs_elab.specs.Phrase.{Phrase, place}
 use Rattle.pvs_elab.specs.Phrase as phrase
-use Rattle.pvs_elab.specs.Answer.{place_of_code}
-use Rattle.pvs_typing.specs.declared.fault.TypeFault.{TypeFault}
-use Rattle.pvs_typing.specs.declared.fault.TypeFault.TheVariants as type_fault
 use Rattle.pvs_phrases.specs.Parts as parts
 use Rattle.pvs_elaboration.specs.declared.fault.ElabFault.{ElabFault}
 use Rattle.pvs_elaboration.specs.declared.fault.ElabFault.TheVariants as elab_fault
@@ -53,12 +49,7 @@ IsForm t (form.Lambda a o) e = e ≡ phrase.Lambda (phrase_at t a) (word_at t o.
 IsForm t (form.Function a o) e = e ≡ phrase.Function (phrase_at t a) (word_at t o.name ∷ []) (phrase_at t o.body) (place_in t o.at)
 IsForm t form.Other e = Unit {0}
 
--- the fault of this code at this place, or memory ran out
-abbrev pub IsListedFault : Pos → Code → ElabFault → Type 0
-IsListedFault p c (elab_fault.At f) = f ≡ record { pos = p; code = c }
-IsListedFault p c elab_fault.Memory = Unit {0}
-
--- the fault of typing: the place of TooLarge, and that of all else
-abbrev pub IsListedFaultOf : Pos → Pos → TypeFault → ElabFault → Type 0
-IsListedFaultOf large at (type_fault.Refused c) e = IsListedFault (place_of_code large at c) c e
-IsListedFaultOf large at type_fault.Memory e = e ≡ elab_fault.Memory
+-- this fault, or memory ran out
+pub data IsFaultOrMemory (f e : ElabFault) : Type 0 where
+  Same : e ≡ f → IsFaultOrMemory f e
+  OutOfMemory : e ≡ elab_fault.Memory → IsFaultOrMemory f e

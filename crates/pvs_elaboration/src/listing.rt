@@ -5,7 +5,7 @@ ghost use Rattle.std.specs.Prelude.{IfOk};
 ghost use Rattle.pvs_elaboration.specs.Known as known;
 ghost use Rattle.pvs_elaboration.specs.Known.{Sources, place_in};
 ghost use Rattle.pvs_elaboration.specs.Meanings as spec;
-ghost use Rattle.pvs_elaboration.specs.Listing.{IsForm, IsListedFault, Lists};
+ghost use Rattle.pvs_elaboration.specs.Listing.{IsFaultOrMemory, IsForm, Lists};
 
 use crate::apply::Operands;
 use crate::binder::Binding;
@@ -240,7 +240,7 @@ pub(crate) fn form_of(listing: &mut Listing, part: usize) -> Result<Form, ElabFa
 
 /// The fault of a code at a place.
 pub(crate) fn fault_at(listing: &Listing, at: usize, code: Code) -> ElabFault
-    ensures { (t : Sources) → Lists listing.now t → IsListedFault (place_in t at) code result }
+    ensures { (t : Sources) → Lists listing.now t → IsFaultOrMemory (spec.fault_at (place_in t at) code) result }
 {
     if at >= listing.places.len() {
         return ElabFault::Memory;

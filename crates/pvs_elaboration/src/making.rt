@@ -15,6 +15,7 @@ use crate::value::Value;
 use pvs_base::Code;
 use pvs_terms::{MakeFault, Node};
 
+#[tactic(auto, using(crate::proofs::StepLaws::term_made, crate::proofs::ListingLaws::failed_or_memory, crate::proofs::KnownLaws::large_failed, crate::proofs::KnownLaws::memory_failed))]
 /// A term that is made at a place, or TooLarge there; and what is done with it.
 pub(crate) fn make_term<S: Scope>(
     scope: &mut S,
@@ -38,6 +39,7 @@ pub(crate) fn make_term<S: Scope>(
     }
 }
 
+#[tactic(auto, using(crate::proofs::StepLaws::type_made, crate::proofs::ListingLaws::failed_or_memory, crate::proofs::KnownLaws::large_failed, crate::proofs::KnownLaws::memory_failed))]
 /// A type that is made at a place, or TooLarge there; and what is done with it.
 pub(crate) fn make_type<S: Scope>(
     scope: &mut S,

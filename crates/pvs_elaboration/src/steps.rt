@@ -5,7 +5,7 @@ ghost use Rattle.pvs_terms.specs.Stored.{tree_at};
 ghost use Rattle.pvs_elaboration.specs.Known.{AreKnownNumbers, IsHere, IsTypeOf, IsTermOf, place_in, site_in};
 ghost use Rattle.pvs_elaboration.specs.Meanings.{meaning, value_numbers, typed_at, term_answer};
 ghost use Rattle.pvs_elaboration.specs.Meanings as spec;
-ghost use Rattle.pvs_elaboration.specs.Listing.{IsListedFaultOf, Lists};
+ghost use Rattle.pvs_elaboration.specs.Listing.{IsFaultOrMemory, Lists};
 ghost use Rattle.pvs_elaboration.specs.Known.{Sources};
 ghost use Rattle.pvs_elaboration.specs.Machine.{Steps, frame_answer, coerced_at, frame_numbers};
 
@@ -25,8 +25,9 @@ use pvs_terms::Id;
 use pvs_typing::TypeFault;
 
 /// The fault of typing: the place of TooLarge, and that of all else.
+#[tactic(auto, using(crate::proofs::ListingLaws::other_place))]
 pub(crate) fn fault_of(listing: &Listing, large: usize, at: usize, fault: TypeFault) -> ElabFault
-    ensures { (t : Sources) → Lists listing.now t → IsListedFaultOf (place_in t large) (place_in t at) fault result }
+    ensures { (t : Sources) → Lists listing.now t → IsFaultOrMemory (spec.fault_of (place_in t large) (place_in t at) fault) result }
 {
     match fault {
         TypeFault::Refused(Code::TooLarge) => fault_at(listing, large, Code::TooLarge),
