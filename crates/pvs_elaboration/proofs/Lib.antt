@@ -1,4 +1,5 @@
 pub mod KnownLaws
+pub mod FormLaws
 pub mod MachineLaws
 pub mod ListingLaws
 pub mod StepLaws
@@ -9,3 +10,6 @@ pub mod NameLaws
 pub mod ApplyLaws
 pub mod BinderLaws
 pub mod EqualLaws
+pub mod LetLaws
+pub mod SubtypeLaws
+pub mod TupleLaws

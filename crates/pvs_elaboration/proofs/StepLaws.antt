@@ -102,6 +102,9 @@ type_made {a} {b} text h at n f {i} t x m g s =
 pub steps_same : (a b : Known) (text : Sources) (h : Here) (r q : Answer Meaning) (res : Result Next ElabFault) → r ≡ q → Steps a b text h q res → Steps a b text h r res
 steps_same a b text h r q res e t = subst (λ x. Steps a b text h x res) (sym e) t
 
+pub follows_same : {a b : Known} (text : Sources) (h : Here) (r q : Answer Meaning) (n : Next) → r ≡ q → Follows a b text h q n → Follows a b text h r n
+follows_same {a} {b} text h r q n e f = subst (λ x. Follows a b text h x n) (sym e) f
+
 -- a step without a call
 pub follows_at_once : {k : Known} (text : Sources) (h : Here) (r : Answer Meaning) (n : Next) → IsKnownNext k n → r ≡ next_answer (site_in k text h) k.stored text n → Follows k k text h r n
 follows_at_once {k} text h r n m e = record { kept = grows_none k; known = m; is = e }

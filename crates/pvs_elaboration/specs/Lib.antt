@@ -5,5 +5,8 @@ pub mod Names
 pub mod Apply
 pub mod Binder
 pub mod Equal
+pub mod Lets
+pub mod Subtypes
+pub mod Tuples
 pub mod Machine
 pub mod Listing

@@ -37,6 +37,9 @@ use Rattle.pvs_elaboration.specs.Names.{name_answer, name_numbers}
 use Rattle.pvs_elaboration.specs.Apply.{apply_answer, apply_numbers}
 use Rattle.pvs_elaboration.specs.Binder.{binder_answer, binder_numbers}
 use Rattle.pvs_elaboration.specs.Equal.{equal_answer, equal_numbers}
+use Rattle.pvs_elaboration.specs.Lets.{let_answer, let_numbers}
+use Rattle.pvs_elaboration.specs.Subtypes.{subtype_answer, subtype_numbers, predicate_answer, predicate_numbers}
+use Rattle.pvs_elaboration.specs.Tuples.{tuple_answer, tuple_numbers, product_answer, product_numbers}
 
 -- what a phrase answers
 abbrev pub asked_at : Site → Stored → Sources → Mode → Phrase → Answer Meaning
@@ -69,6 +72,11 @@ frame_answer z s text (frame.Name f at) = name_answer z s text f at
 frame_answer z s text (frame.Apply f o) = apply_answer z s text f o
 frame_answer z s text (frame.Binder f o) = binder_answer z s text f o
 frame_answer z s text (frame.Equal f o) = equal_answer z s text f o
+frame_answer z s text (frame.Let f o) = let_answer z s text f o
+frame_answer z s text (frame.Subtype f o) = subtype_answer z s text f o
+frame_answer z s text (frame.Predicate f start at) = predicate_answer z s text f start at
+frame_answer z s text (frame.Tuple f o) = tuple_answer z s text f o
+frame_answer z s text (frame.Product f k o) = product_answer z s text f k o
 
 abbrev pub frame_numbers : Frame → List (Sort × ℕ)
 frame_numbers frame.Same = []
@@ -81,6 +89,11 @@ frame_numbers (frame.Name f at) = name_numbers f
 frame_numbers (frame.Apply f o) = apply_numbers f
 frame_numbers (frame.Binder f o) = binder_numbers f
 frame_numbers (frame.Equal f o) = equal_numbers f
+frame_numbers (frame.Let f o) = let_numbers f
+frame_numbers (frame.Subtype f o) = subtype_numbers f
+frame_numbers (frame.Predicate f start at) = predicate_numbers f
+frame_numbers (frame.Tuple f o) = tuple_numbers f
+frame_numbers (frame.Product f k o) = product_numbers f
 
 abbrev pub control_answer : Site → Stored → Sources → Control → Answer Meaning
 control_answer z s text (control.Ask p m) = asked_at z s text m (phrase_at text p)

@@ -98,7 +98,12 @@ impl Here {
     /// The place under a variable of this type, with this name for it.
     ///
     /// Memory also where the number of variables is too great.
-    pub(crate) fn with_variable(&self, alloc: Global, name: usize, ty: Id) -> Result<Here, ElabFault>
+    pub(crate) fn with_variable(
+        &self,
+        alloc: Global,
+        name: usize,
+        ty: Id,
+    ) -> Result<Here, ElabFault>
         ensures { IfOk result (IsBelow self.now name ty) }
     {
         if self.depth == u32::MAX {

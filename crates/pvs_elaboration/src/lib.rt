@@ -9,12 +9,15 @@ mod fault;
 mod frame;
 mod here;
 mod join;
+mod lets;
 mod listing;
 mod machine;
 mod making;
 mod names;
 mod scope;
 mod steps;
+mod subtypes;
+mod tuples;
 mod value;
 
 pub use fault::ElabFault;

@@ -16,9 +16,12 @@ use crate::equal::resume_equal;
 use crate::fault::ElabFault;
 use crate::frame::{Control, Entrance, Frame, Next, give};
 use crate::here::{Here, Typed};
+use crate::lets::resume_let;
 use crate::listing::{Listing, fault_at};
 use crate::names::resume_name;
 use crate::scope::Scope;
+use crate::subtypes::{resume_predicate, resume_subtype};
+use crate::tuples::{resume_product, resume_tuple};
 use crate::value::Value;
 use pvs_base::Code;
 use pvs_terms::Id;
@@ -97,5 +100,14 @@ pub(crate) fn frame_answer<S: Scope>(
         Frame::Apply(row, operands) => resume_apply(scope, listing, here, row, operands, value),
         Frame::Binder(row, binding) => resume_binder(scope, listing, here, row, binding, value),
         Frame::Equal(row, sides) => resume_equal(scope, listing, here, row, sides, value),
+        Frame::Let(row, definition) => resume_let(scope, listing, here, row, definition, value),
+        Frame::Subtype(row, binding) => resume_subtype(scope, listing, here, row, binding, value),
+        Frame::Predicate(row, start, at) => {
+            resume_predicate(scope, listing, here, row, start, at, value)
+        }
+        Frame::Tuple(row, pair) => resume_tuple(scope, listing, here, row, pair, value),
+        Frame::Product(row, beyond, binding) => {
+            resume_product(scope, listing, here, row, beyond, binding, value)
+        }
     }
 }
