@@ -13,10 +13,14 @@ use Rattle.pvs_elaboration.specs.declared.tuples.TupleRow.{TupleRow}
 use Rattle.pvs_elaboration.specs.declared.tuples.TupleRow.TheVariants as tuple
 use Rattle.pvs_elaboration.specs.declared.tuples.ProductRow.{ProductRow}
 use Rattle.pvs_elaboration.specs.declared.tuples.ProductRow.TheVariants as product
+use Rattle.pvs_elaboration.specs.declared.parts.Projection.{Projection}
+use Rattle.pvs_elaboration.specs.declared.parts.PartRow.{PartRow}
+use Rattle.pvs_elaboration.specs.declared.parts.PartRow.TheVariants as part
 use Rattle.pvs_elaboration.specs.Known.{Sources, Known, Grows, Site, AreKnownNumbers}
 use Rattle.pvs_elaboration.specs.Lets.{let_answer, let_numbers}
 use Rattle.pvs_elaboration.specs.Subtypes.{subtype_answer, subtype_numbers, predicate_answer, predicate_numbers}
 use Rattle.pvs_elaboration.specs.Tuples.{tuple_answer, tuple_numbers, product_answer, product_numbers}
+use Rattle.pvs_elaboration.specs.Parts.{part_answer, part_numbers}
 use Rattle.pvs_elaboration.proofs.KnownLaws.{tree_stays}
 
 pub let_stays : {a b : Known} (z : Site) (text : Sources) (f : LetRow) (o : Definition) → Grows a b → AreKnownNumbers a (let_numbers f) → let_answer z b.stored text f o ≡ let_answer z a.stored text f o
@@ -49,3 +53,12 @@ tuple_stays z text (tuple.Lifted t c) o g n = rw (tree_stays g n.0, tree_stays g
 pub product_stays : {a b : Known} (z : Site) (text : Sources) (f : ProductRow) (k : ℕ) (o : Binding) → Grows a b → AreKnownNumbers a (product_numbers f) → product_answer z b.stored text f k o ≡ product_answer z a.stored text f k o
 product_stays z text product.First k o g n = refl
 product_stays z text (product.Second c) k o g n = rw (tree_stays g n.0) refl
+
+pub part_stays : {a b : Known} (z : Site) (text : Sources) (f : PartRow) (o : Projection) → Grows a b → AreKnownNumbers a (part_numbers f) → part_answer z b.stored text f o ≡ part_answer z a.stored text f o
+part_stays z text part.Operand o g n = refl
+part_stays z text (part.Size t) o g n = rw (tree_stays g n.0, tree_stays g n.1.0) refl
+part_stays z text (part.From m i) o g n = refl
+part_stays z text (part.Head m i t) o g n = rw (tree_stays g n.0) refl
+part_stays z text (part.Others m i t e) o g n = rw (tree_stays g n.0, tree_stays g n.1.0) refl
+part_stays z text (part.Rest m i f e) o g n = rw (tree_stays g n.0, tree_stays g n.1.0) refl
+part_stays z text (part.Next m i u) o g n = rw (tree_stays g n.0) refl

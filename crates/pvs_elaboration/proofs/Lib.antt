@@ -13,3 +13,4 @@ pub mod EqualLaws
 pub mod LetLaws
 pub mod SubtypeLaws
 pub mod TupleLaws
+pub mod PartLaws

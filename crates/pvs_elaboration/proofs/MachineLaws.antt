@@ -48,7 +48,7 @@ use Rattle.pvs_elaboration.specs.Binder.{binder_answer, binder_numbers}
 use Rattle.pvs_elaboration.specs.Equal.{equal_answer, equal_numbers}
 use Rattle.pvs_elaboration.specs.Machine.{frame_answer, frame_numbers, control_answer, entrance_site, entrance_numbers, next_answer, entries_answer, machine_answer, AreKnownEntries, IsKnownNext, IsMachine, IsEntered, IsAdded, IsKnownEntry, Follows, Goes, Finds}
 use Rattle.pvs_elaboration.proofs.KnownLaws.{grows_none, grows_trans, tree_stays, site_kept, here_stays, numbers_stay, hypothesis_site_is, hypothesis_site_stays, variable_site_is, variable_site_stays}
-use Rattle.pvs_elaboration.proofs.FormLaws.{let_stays, subtype_stays, predicate_stays, tuple_stays, product_stays}
+use Rattle.pvs_elaboration.proofs.FormLaws.{let_stays, subtype_stays, predicate_stays, tuple_stays, product_stays, part_stays}
 
 -- One step of the definition, and then another: the value of the first goes to a frame.
 
@@ -167,6 +167,7 @@ frame_stays_at z text (frame.Subtype f o) g n = subtype_stays z text f o g n
 frame_stays_at z text (frame.Predicate f start at) g n = predicate_stays z text f start at g n
 frame_stays_at z text (frame.Tuple f o) g n = tuple_stays z text f o g n
 frame_stays_at z text (frame.Product f k o) g n = product_stays z text f k o g n
+frame_stays_at z text (frame.Part f o) g n = part_stays z text f o g n
 
 pub frame_stays : {a b : Known} (text : Sources) (h : Here) (f : Frame) → Grows a b → IsHere a h → AreKnownNumbers a (frame_numbers f)
     → frame_answer (site_in b text h) b.stored text f ≡ frame_answer (site_in a text h) a.stored text f

@@ -8,5 +8,6 @@ pub mod Equal
 pub mod Lets
 pub mod Subtypes
 pub mod Tuples
+pub mod Parts
 pub mod Machine
 pub mod Listing

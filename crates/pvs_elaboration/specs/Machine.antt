@@ -40,6 +40,7 @@ use Rattle.pvs_elaboration.specs.Equal.{equal_answer, equal_numbers}
 use Rattle.pvs_elaboration.specs.Lets.{let_answer, let_numbers}
 use Rattle.pvs_elaboration.specs.Subtypes.{subtype_answer, subtype_numbers, predicate_answer, predicate_numbers}
 use Rattle.pvs_elaboration.specs.Tuples.{tuple_answer, tuple_numbers, product_answer, product_numbers}
+use Rattle.pvs_elaboration.specs.Parts.{part_answer, part_numbers}
 
 -- what a phrase answers
 abbrev pub asked_at : Site → Stored → Sources → Mode → Phrase → Answer Meaning
@@ -77,6 +78,7 @@ frame_answer z s text (frame.Subtype f o) = subtype_answer z s text f o
 frame_answer z s text (frame.Predicate f start at) = predicate_answer z s text f start at
 frame_answer z s text (frame.Tuple f o) = tuple_answer z s text f o
 frame_answer z s text (frame.Product f k o) = product_answer z s text f k o
+frame_answer z s text (frame.Part f o) = part_answer z s text f o
 
 abbrev pub frame_numbers : Frame → List (Sort × ℕ)
 frame_numbers frame.Same = []
@@ -94,6 +96,7 @@ frame_numbers (frame.Subtype f o) = subtype_numbers f
 frame_numbers (frame.Predicate f start at) = predicate_numbers f
 frame_numbers (frame.Tuple f o) = tuple_numbers f
 frame_numbers (frame.Product f k o) = product_numbers f
+frame_numbers (frame.Part f o) = part_numbers f
 
 abbrev pub control_answer : Site → Stored → Sources → Control → Answer Meaning
 control_answer z s text (control.Ask p m) = asked_at z s text m (phrase_at text p)

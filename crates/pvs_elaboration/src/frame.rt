@@ -12,6 +12,7 @@ use crate::equal::{EqualRow, Sides};
 use crate::here::{Here, Typed};
 use crate::lets::{Definition, LetRow};
 use crate::names::NameRow;
+use crate::parts::{PartRow, Projection};
 use crate::subtypes::{PredicateRow, SubtypeRow};
 use crate::tuples::{Pair, ProductRow, TupleRow};
 use crate::value::{Mode, Value};
@@ -43,6 +44,7 @@ pub(crate) enum Frame {
     Tuple(TupleRow, Pair),
     /// A type of tuples, with the number of components beyond two.
     Product(ProductRow, usize, Binding),
+    Part(PartRow, Projection),
 }
 
 /// What is done at a place of the text.

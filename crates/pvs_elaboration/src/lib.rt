@@ -14,6 +14,7 @@ mod listing;
 mod machine;
 mod making;
 mod names;
+mod parts;
 mod scope;
 mod steps;
 mod subtypes;

@@ -19,6 +19,7 @@ use crate::here::{Here, Typed};
 use crate::lets::resume_let;
 use crate::listing::{Listing, fault_at};
 use crate::names::resume_name;
+use crate::parts::resume_part;
 use crate::scope::Scope;
 use crate::subtypes::{resume_predicate, resume_subtype};
 use crate::tuples::{resume_product, resume_tuple};
@@ -106,6 +107,7 @@ pub(crate) fn frame_answer<S: Scope>(
             resume_predicate(scope, listing, here, row, start, at, value)
         }
         Frame::Tuple(row, pair) => resume_tuple(scope, listing, here, row, pair, value),
+        Frame::Part(row, projection) => resume_part(scope, listing, here, row, projection, value),
         Frame::Product(row, beyond, binding) => {
             resume_product(scope, listing, here, row, beyond, binding, value)
         }
