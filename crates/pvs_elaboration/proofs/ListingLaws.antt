@@ -1,5 +1,6 @@
 -- What is listed is looked up by its number.
 use Rattle.std.proofs.Common.{◌≡◌, ◌<◌, ◌+◌, ℕ, zero, suc, List, [], ◌∷◌, ◌++◌, length, map, get_or, refl, sym, ◌∙◌, ap, subst, arith}
+use Rattle.std.proofs.lemmas.List.{append-nil}
 use Rattle.std.specs.Borrow.{Bor}
 use Rattle.pvs_base.specs.declared.place.Pos.{Pos}
 use Rattle.pvs_base.specs.declared.code.Code.{Code}
@@ -15,7 +16,7 @@ use Rattle.pvs_elaboration.specs.declared.fault.ElabFault.TheVariants as elab_fa
 use Rattle.pvs_elaboration.specs.declared.listing.Listing.{Listing}
 use Rattle.pvs_elaboration.specs.Known.{Sources, phrase_among, place_among, word_among, phrase_at, place_in, word_at, Known, Failed}
 use Rattle.pvs_elaboration.specs.Meanings.{fault_at}
-use Rattle.pvs_elaboration.specs.Listing.{Lists, IsFaultOrMemory, Same, OutOfMemory}
+use Rattle.pvs_elaboration.specs.Listing.{Lists, bytes_of, IsFaultOrMemory, Same, OutOfMemory}
 
 place_among_listed : (f : Place → Pos) (xs : List Place) (ys : List Pos) (i : ℕ) (d : Place) → i < length xs → place_among (map f xs ++ ys) i ≡ f (get_or xs i d)
 place_among_listed f [] ys i d h = absurd (omega (arith, h))
@@ -55,3 +56,18 @@ other_place large at c n = refl
 pub failed_or_memory : {X : Type 0} {a b : Known} (r : Answer X) (f e : ElabFault) → IsFaultOrMemory f e → Failed a b r f → Failed a b r e
 failed_or_memory {X} {a} {b} r f e (Same q) x = subst (λ y. Failed a b r y) (sym q) x
 failed_or_memory {X} {a} {b} r f e (OutOfMemory q) x = subst (λ y. Failed a b r y) (sym q) (record { kept = x.kept; is = tt })
+
+-- what is listed, and no more
+pub listed : Listing → Sources
+listed l = record { phrases = map (parts.phrase_at l.text.now) l.parts.items; places = map (parts.place_in l.text.now) l.places.items; words = bytes_of l.names.items }
+
+pub lists_listed : (l : Listing) → Lists l (listed l)
+unfolding listed
+lists_listed l = record {
+  more_phrases = [];
+  more_places = [];
+  more_words = [];
+  phrases = sym (append-nil _);
+  places = sym (append-nil _);
+  words = sym (append-nil _);
+}

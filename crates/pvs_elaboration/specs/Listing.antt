@@ -14,7 +14,7 @@ use Rattle.pvs_elaboration.specs.declared.listing.Form.{Form}
 use Rattle.pvs_elaboration.specs.declared.listing.Form.TheVariants as form
 use Rattle.pvs_elaboration.specs.Known.{Sources, phrase_at, place_in, word_at}
 
-abbrev bytes_of : List (Bor Text) → List Text
+abbrev pub bytes_of : List (Bor Text) → List Text
 bytes_of xs = map (λ x. x.now) xs
 
 -- these sources have what is listed at its numbers, and perhaps more after it
