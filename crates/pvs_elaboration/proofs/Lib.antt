@@ -1,7 +1,6 @@
 pub mod KnownLaws
 pub mod MachineLaws
 pub mod ListingLaws
-pub mod FormLaws
 pub mod StepLaws
 pub mod ChoiceLaws
 pub mod JoinLaws

@@ -7,16 +7,17 @@ use Rattle.pvs_base.specs.declared.code.Code.{Code}
 use Rattle.pvs_base.specs.declared.code.Code.TheVariants.{TooLarge}
 use Rattle.pvs_terms.specs.Tree.{Text}
 use Rattle.pvs_elab.specs.Answer.{Answer, place_of_code}
-use Rattle.pvs_elab.specs.Phrase.{Phrase}
+use Rattle.pvs_elab.specs.Phrase.{Phrase, place}
 use Rattle.pvs_phrases.specs.declared.part.Part.{Part}
 use Rattle.pvs_phrases.specs.declared.part.Place.{Place}
 use Rattle.pvs_phrases.specs.Parts as parts
 use Rattle.pvs_elaboration.specs.declared.fault.ElabFault.{ElabFault}
 use Rattle.pvs_elaboration.specs.declared.fault.ElabFault.TheVariants as elab_fault
 use Rattle.pvs_elaboration.specs.declared.listing.Listing.{Listing}
+use Rattle.pvs_elaboration.specs.declared.listing.Form.{Form}
 use Rattle.pvs_elaboration.specs.Known.{Sources, phrase_among, place_among, word_among, phrase_at, place_in, word_at, Known, Failed}
 use Rattle.pvs_elaboration.specs.Meanings.{fault_at}
-use Rattle.pvs_elaboration.specs.Listing.{Lists, bytes_of, IsMore, IsPartAdded, IsPlaceAdded, IsNameAdded, IsFaultOrMemory, Same, OutOfMemory}
+use Rattle.pvs_elaboration.specs.Listing.{Lists, bytes_of, IsMore, IsPartAdded, IsPlaceAdded, IsNameAdded, IsStartAdded, IsForm, IsFormAdded, IsFormOf, IsFaultOrMemory, Same, OutOfMemory}
 
 place_among_listed : (f : Place → Pos) (xs : List Place) (ys : List Pos) (i : ℕ) (d : Place) → i < length xs → place_among (map f xs ++ ys) i ≡ f (get_or xs i d)
 place_among_listed f [] ys i d h = absurd (omega (arith, h))
@@ -151,4 +152,14 @@ name_added l m x i n e ps qs ns =
         };
       };
       is = λ t h. ap₂ word_among (words t h) n ∙ last_word (λ (y : Bor Text). y.now) l.names.items x.now h.more_words;
+    }
+
+-- the form of a listed part
+pub form_found : {l a m : Listing} {i : ℕ} {p : Part} {f : Form} {at : ℕ} → i < length l.parts.items → p ≡ get_or l.parts.items i p → IsFormAdded l a (parts.phrase_at l.text.now p) f → IsStartAdded a m p at → IsFormOf l m i f at
+form_found {l} {a} {m} {i} {p} {f} {at} n e r s =
+    let phrase_is = λ (t : Sources) (h : Lists m t). phrase_listed l t i p (r.more.lists t (s.more.lists t h)) n ∙ ap (parts.phrase_at l.text.now) (sym e) in
+    record {
+      more = more_trans r.more s.more;
+      is = λ t h. subst (IsForm t f) (sym (phrase_is t h)) (r.is t (s.more.lists t h));
+      start = λ t h. s.is t h ∙ ap (λ (v : Text). place (parts.phrase_at v p)) r.more.text ∙ sym (ap place (phrase_is t h));
     }
