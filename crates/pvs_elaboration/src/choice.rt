@@ -224,12 +224,10 @@ fn resume_checked<S: Scope>(
     ensures { (t : Sources) → Lists listing.now t → Steps (S.known scope.old) (S.known scope.new) t here.now (choice_answer (site_in (S.known scope.old) t here.now) (S.known scope.old).stored t row branches (meaning (S.known scope.old).stored (spec_value.Term term))) result }
 {
     match row {
-        ChoiceRow::CheckFirst(want) => Ok(ask_under(
-            term,
-            branches.first,
-            Mode::Check(want),
-            Frame::Choice(ChoiceRow::CheckNegation(want, term), branches),
-        )),
+        ChoiceRow::CheckFirst(want) => {
+            let frame = Frame::Choice(ChoiceRow::CheckNegation(want, term), branches);
+            Ok(ask_under(term, branches.first, Mode::Check(want), frame))
+        }
         ChoiceRow::CheckNegation(want, p) => make_term(
             scope,
             listing,
@@ -238,12 +236,10 @@ fn resume_checked<S: Scope>(
             Node::If(p, here.no, here.yes),
             Frame::Choice(ChoiceRow::CheckSecond(want, p, term), branches),
         ),
-        ChoiceRow::CheckSecond(want, p, one) => Ok(ask_under(
-            term,
-            branches.second,
-            Mode::Check(want),
-            Frame::Choice(ChoiceRow::CheckLast(p, one), branches),
-        )),
+        ChoiceRow::CheckSecond(want, p, one) => {
+            let frame = Frame::Choice(ChoiceRow::CheckLast(p, one), branches);
+            Ok(ask_under(term, branches.second, Mode::Check(want), frame))
+        }
         ChoiceRow::CheckLast(p, one) => make_term(
             scope,
             listing,
@@ -271,18 +267,14 @@ fn resume_term<S: Scope>(
     ensures { (t : Sources) → Lists listing.now t → Steps (S.known scope.old) (S.known scope.new) t here.now (choice_answer (site_in (S.known scope.old) t here.now) (S.known scope.old).stored t row branches (meaning (S.known scope.old).stored (spec_value.Term term))) result }
 {
     match row {
-        ChoiceRow::First => Ok(ask_under(
-            term,
-            branches.first,
-            Mode::Infer,
-            Frame::Choice(ChoiceRow::Negation(term), branches),
-        )),
-        ChoiceRow::Second(p, one) => Ok(ask_under(
-            term,
-            branches.second,
-            Mode::Infer,
-            Frame::Choice(ChoiceRow::Join(p, one, term), branches),
-        )),
+        ChoiceRow::First => {
+            let frame = Frame::Choice(ChoiceRow::Negation(term), branches);
+            Ok(ask_under(term, branches.first, Mode::Infer, frame))
+        }
+        ChoiceRow::Second(p, one) => {
+            let frame = Frame::Choice(ChoiceRow::Join(p, one, term), branches);
+            Ok(ask_under(term, branches.second, Mode::Infer, frame))
+        }
         ChoiceRow::Types(p, one, n, two) => {
             join_types(scope, listing, here, p, one, n, two, branches)
         }
