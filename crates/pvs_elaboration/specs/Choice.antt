@@ -1,5 +1,5 @@
 -- What is left of a choice and of NOT.
-use Rattle.std.specs.Prelude.{ℕ, Bool, if◌then◌else◌, List, [], ◌∷◌, Option, Some, None, Ok}
+use Rattle.std.specs.Prelude.{◌≡◌, ℕ, Bool, if◌then◌else◌, List, [], ◌∷◌, Option, Some, None, Result, Ok, Err}
 use Rattle.pvs_base.specs.Answers.{◌>>=◌}
 use Rattle.pvs_base.specs.declared.place.Pos.{Pos}
 use Rattle.pvs_terms.specs.Tree.{Tree, TBool, True, If}
@@ -7,19 +7,22 @@ use Rattle.pvs_terms.specs.declared.shape.Sort.{Sort}
 use Rattle.pvs_terms.specs.declared.shape.Sort.TheVariants.{OfType, OfTerm}
 use Rattle.pvs_terms.specs.Stored.{Stored, tree_at}
 use Rattle.pvs_subst.specs.Contexts.{Hypothesis}
+use Rattle.pvs_sig.specs.Lookups.{Lookups}
 use Rattle.pvs_types.specs.Outcome.{from_result}
 use Rattle.pvs_types.specs.Forms.{up, most, first_among}
 use Rattle.pvs_types.specs.Coerce.{coerce}
 use Rattle.pvs_types.specs.Typing.{negation}
+use Rattle.pvs_typing.specs.Answers.{IsOptionKnown, tree_option}
 use Rattle.pvs_elab.specs.Answer.{Answer, ◌>>◌, pure, within_limits_at, from_outcome, from_outcome_at}
 use Rattle.pvs_elab.specs.Elab.{Elab, TypedTree, under_hypothesis, negation_at, negation_as}
 use Rattle.pvs_elab.specs.Elab as definition
+use Rattle.pvs_elaboration.specs.declared.fault.ElabFault.{ElabFault}
 use Rattle.pvs_elaboration.specs.declared.choice.Branches.{Branches}
 use Rattle.pvs_elaboration.specs.declared.choice.ChoiceRow.{ChoiceRow}
 use Rattle.pvs_elaboration.specs.declared.choice.ChoiceRow.TheVariants.{First, Negation, Second, Join, Types, General, JoinFirst, JoinSecond, Made, CheckFirst, CheckNegation, CheckSecond, CheckLast}
 use Rattle.pvs_elaboration.specs.declared.choice.NotRow.{NotRow}
 use Rattle.pvs_elaboration.specs.declared.choice.NotRow.TheVariants as not_form
-use Rattle.pvs_elaboration.specs.Known.{Sources, place_in, Site}
+use Rattle.pvs_elaboration.specs.Known.{Sources, place_in, Known, Grows, Site, Failed}
 use Rattle.pvs_elaboration.specs.Meanings.{Meaning, Term, typed_at, typed_answer, term_answer, on_typed, on_term, on_formed, on_done, elab_at}
 
 -- the places of the branches, that of branches that do not join, and that of the whole
@@ -58,6 +61,20 @@ join_types z g p a n b = from_outcome g.first (from_result (up z.lookups a.ty)) 
 
 abbrev pub join : Site → Bool → Places → Tree → TypedTree → Tree → TypedTree → Answer TypedTree
 join z early g p a n b = if early then within_limits_at g.at (If p a.tree b.tree) >>= (λ _. join_types z g p a n b) else join_types z g p a n b
+
+-- the first of these types that is above the type of the second branch, if there is one
+abbrev pub first_shared : Lookups → Pos → List Tree → Tree → Answer (Option Tree)
+first_shared l at us b = from_outcome at (from_result (up l b)) >>= (λ vs. Ok (first_among us vs))
+
+pub record FindsShared (a b : Known) (r : Answer (Option Tree)) (o : Option ℕ) : Type 0 where
+  pub kept : Grows a b
+  pub known : IsOptionKnown b.stored b.declares o
+  pub is : r ≡ Ok (tree_option b.stored o)
+
+-- what a call tells of it
+abbrev pub TellsShared : Known → Known → Answer (Option Tree) → Result (Option ℕ) ElabFault → Type 0
+TellsShared a b r (Ok o) = FindsShared a b r o
+TellsShared a b r (Err e) = Failed a b r e
 
 -- the branches, after each step before
 abbrev pub branch_second : Site → Bool → Places → Elab → Tree → TypedTree → Tree → Answer TypedTree
