@@ -92,6 +92,11 @@ check_negation_row k c text h b u p a res i t =
     steps_same k c text h _ _ res (negation_made text h b.at p
     (check_second (elab_at z text b.second) (place_in text b.at) z.here (tree_at k.stored u) (tree_at k.stored p) (tree_at k.stored a)) (λ (x : Tree). Ok (Term x)) i) t
 
+pub check_last_row : (k c : Known) (text : Sources) (h : Here) (b : Branches) (p x y : ℕ) (res : Result Next ElabFault)
+    → Steps k c text h (made_answer (site_in k text h) k.stored text b.at (node_tree k.stored (node.If p x y)) frame.Same) res
+    → Steps k c text h (choice_answer (site_in k text h) k.stored text (CheckLast p x) b (Term (tree_at k.stored y))) res
+check_last_row k c text h b p x y res t = steps_same k c text h _ _ res refl t
+
 pub not_row : (k c : Known) (text : Sources) (h : Here) (pos at : ℕ) (p : ℕ) (res : Result Next ElabFault) → IsHere k h
     → Steps k c text h (made_answer (site_in k text h) k.stored text pos (node_tree k.stored (node.If p h.no h.yes)) (frame.WithType h.truth)) res
     → Steps k c text h (not_answer (site_in k text h) k.stored text not_form.Tree pos at (Term (tree_at k.stored p))) res

@@ -4,9 +4,11 @@ use Rattle.std.specs.Prelude.{if◌then◌else◌, Result, Ok, Err}
 use Rattle.pvs_base.specs.Answers.{◌>>=◌}
 use Rattle.pvs_base.specs.declared.place.Pos.{Pos}
 use Rattle.pvs_base.specs.declared.code.Code.{Code}
+use Rattle.pvs_base.specs.declared.code.Code.TheVariants.{Mismatch}
 use Rattle.pvs_terms.specs.Tree.{Tree, TBool, Eq}
+use Rattle.pvs_terms.specs.declared.node.Node.{Node}
 use Rattle.pvs_terms.specs.declared.node.Node.TheVariants as node
-use Rattle.pvs_terms.specs.Stored.{tree_at, node_tree}
+use Rattle.pvs_terms.specs.Stored.{Stored, tree_at, node_tree}
 use Rattle.pvs_subst.specs.Contexts.{context_at}
 use Rattle.pvs_types.specs.Outcome.{Outcome, Refused, from_result}
 use Rattle.pvs_types.specs.Forms.{head, most}
@@ -126,6 +128,25 @@ head_is_truth {k} text h o c i n e =
     follows_at_once text h _ _ (record { entrance = tt; control = tt; frame = n })
     (ap (λ (t : Tree). typed_answer (iff_head z (elab_at z text o.left) (elab_at z text o.right) (place_in text o.left_at) (place_in text o.right_at) (typed_at k.stored c) t)) e
     ∙ right_asked z text o (typed_at k.stored c))
+
+-- no other node is the type of truth values
+pub other_head : (s : Stored) (n : Node) → ¬ (n ≡ node.TBool) → truth_type (node_tree s n) ≡ Refused Mismatch
+other_head s node.TBool h = absurd (h refl)
+other_head s (node.TName r) h = refl
+other_head s (node.TSub a p) h = refl
+other_head s (node.TFun a b) h = refl
+other_head s (node.TPair k a b) h = refl
+other_head s (node.Var n) h = refl
+other_head s (node.Const r) h = refl
+other_head s node.True h = refl
+other_head s node.False h = refl
+other_head s (node.Lam a b) h = refl
+other_head s (node.App a b) h = refl
+other_head s (node.Tup k a b) h = refl
+other_head s (node.Fst k a) h = refl
+other_head s (node.Snd k a) h = refl
+other_head s (node.If a b c) h = refl
+other_head s (node.Eq a b) h = refl
 
 pub head_is_no_truth : (k : Known) (text : Sources) (h : Here) (o : Sides) (c : here.Typed) (t : Tree) (e : Code) → truth_type t ≡ Refused e
     → Failed k k (equal_answer (site_in k text h) k.stored text (equal.IffHead c) o (Formed t)) (fault_at (place_of_code (place_in text o.left_at) (place_in text o.left_at) e) e)

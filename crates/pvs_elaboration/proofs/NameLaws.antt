@@ -1,11 +1,13 @@
 -- The rows of names.
-use Rattle.std.proofs.Common.{◌≡◌, ◌-◌, ℕ, Bool, true, false, List, [], ◌∷◌, refl, sym, ◌∙◌, ap}
+use Rattle.std.proofs.Common.{◌≡◌, ◌<◌, ◌≤◌, ◌-◌, ℕ, suc, Bool, true, false, List, [], ◌∷◌, length, get_or, drop, drop-cons, refl, sym, ◌∙◌, ap, subst}
+use Rattle.std.proofs.lemmas.List.{drop_all}
 use Rattle.std.specs.Prelude.{bytes_eq, if◌then◌else◌, Option, Some, None, Result, Ok, Err}
 use Rattle.pvs_base.specs.Answers.{◌>>=◌}
 use Rattle.pvs_base.specs.declared.code.Code.{Code}
 use Rattle.pvs_terms.specs.declared.shape.Sort.TheVariants.{OfTerm}
 use Rattle.pvs_terms.specs.Tree.{Text, Tree, Ref, TBool, TName, Const}
-use Rattle.pvs_terms.specs.Stored.{Stored, tree_at}
+use Rattle.pvs_terms.specs.declared.node.Node.TheVariants as node
+use Rattle.pvs_terms.specs.Stored.{Stored, tree_at, ref_at, node_tree}
 use Rattle.pvs_subst.specs.Replace.{lift}
 use Rattle.pvs_subst.specs.Contexts.{context_at}
 use Rattle.pvs_types.specs.Outcome.{Outcome}
@@ -21,16 +23,18 @@ use Rattle.pvs_elaboration.specs.declared.here.Here.{Here}
 use Rattle.pvs_elaboration.specs.declared.value.Mode.TheVariants as mode
 use Rattle.pvs_elaboration.specs.declared.value.Value.TheVariants as value
 use Rattle.pvs_elaboration.specs.declared.names.NameRow.TheVariants as name
+use Rattle.pvs_elaboration.specs.declared.fault.ElabFault.{ElabFault}
+use Rattle.pvs_elaboration.specs.declared.frame.Next.{Next}
 use Rattle.pvs_elaboration.specs.declared.frame.Frame.{Frame}
 use Rattle.pvs_elaboration.specs.declared.frame.Frame.TheVariants as frame
 use Rattle.pvs_elaboration.specs.Known as known
-use Rattle.pvs_elaboration.specs.Known.{Sources, word_at, place_in, Known, Grows, Accepts, Site, site_in, IsHere, IsTypeOf, AreKnownNumbers, locals_at, local_item, Failed}
+use Rattle.pvs_elaboration.specs.Known.{Sources, word_at, place_in, Known, Grows, Accepts, Site, site_in, IsHere, IsTypeOf, IsTermOf, AreLocals, AreKnownNumbers, locals_at, local_item, Failed}
 use Rattle.pvs_elaboration.specs.Meanings.{Typed, Term, Formed, typed_answer, term_answer, formed_answer, fault_of, fault_at}
 use Rattle.pvs_elaboration.specs.Names.{inferred_at, checked_at, accepted_at, name_answer, IsVariable, local_tree}
-use Rattle.pvs_elaboration.specs.Machine.{asked_at, frame_answer, frame_numbers, made_answer, made_type_answer, named_answer, Follows}
+use Rattle.pvs_elaboration.specs.Machine.{asked_at, frame_answer, frame_numbers, made_answer, made_type_answer, named_answer, Follows, Steps}
 use Rattle.pvs_elaboration.proofs.KnownLaws.{grows_none, number_stays, tree_stays, within_limits_made, failed_then}
 use Rattle.pvs_elaboration.proofs.MachineLaws.{then_same}
-use Rattle.pvs_elaboration.proofs.StepLaws.{given, given_follows, follows_at_once, typing_failed}
+use Rattle.pvs_elaboration.proofs.StepLaws.{given, given_follows, follows_at_once, steps_same, typing_failed}
 
 -- The term of a local name.
 
@@ -76,9 +80,52 @@ local_follows {a} {b} text h x p i f j g n m s =
     given_follows text h (within_limits_at (place_in text p) (lift (tree_at a.stored i.0) (h.depth - i.1) 0)) (lift (tree_at a.stored i.0) (h.depth - i.1) 0) Term (value.Term j) f g n m (s.known, tt)
     (within_limits_made (place_in text p) (lift (tree_at a.stored i.0) (h.depth - i.1) 0) s.fits) (ap Term (sym s.tree))
 
+named_at_site : (k : Known) (text : Sources) (h : Here) (x : Text) (r : Ref) → k.names.constant_named x ≡ Ok r → (site_in k text h).names.constant_named x ≡ Ok r
+unfolding site_in
+named_at_site k text h x r e = e
+
+-- Looked up by a loop over the local names.
+
+item_if : (b : Bool) (x y : Option (ℕ × ℕ)) → b ≡ true → (if b then x else y) ≡ x
+item_if true x y e = refl
+item_if false x y e = cc
+
+item_else : (b : Bool) (x y : Option (ℕ × ℕ)) → b ≡ false → (if b then x else y) ≡ y
+item_else true x y e = cc
+item_else false x y e = refl
+
+pub local_first : (t : Sources) (x : Text) (ls : List Local) (i : ℕ) (l : Local) → i < length ls → l ≡ get_or ls i l → bytes_eq x (word_at t l.name) ≡ true → local_item t x (drop i ls) ≡ Some (l.term, l.at)
+local_first t x ls i l h g e = rw (drop-cons ls i l, ← g) (item_if (bytes_eq x (word_at t l.name)) (Some (l.term, l.at)) (local_item t x (drop (suc i) ls)) e)
+
+pub local_next : (t : Sources) (x : Text) (ls : List Local) (i : ℕ) (l : Local) → i < length ls → l ≡ get_or ls i l → bytes_eq x (word_at t l.name) ≡ false → local_item t x (drop i ls) ≡ local_item t x (drop (suc i) ls)
+local_next t x ls i l h g e = rw (drop-cons ls i l, ← g) (item_else (bytes_eq x (word_at t l.name)) (Some (l.term, l.at)) (local_item t x (drop (suc i) ls)) e)
+
+pub local_none : (t : Sources) (x : Text) (ls : List Local) (i : ℕ) → length ls ≤ i → local_item t x (drop i ls) ≡ None
+local_none t x ls i h = ap (local_item t x) (drop_all i ls h)
+
+-- the number of a local name that is found is known
+abbrev IsSomeOf : {A : Type 0} → (A → Type 0) → Option A → Type 0
+IsSomeOf P (Some x) = P x
+IsSomeOf P None = Unit {0}
+
+some_is : {A : Type 0} (P : A → Type 0) (i j : A) → Some i ≡ Some j → P i → P j
+some_is {A} P i j e n = subst (λ (o : Option A). IsSomeOf P o) e n
+
+found_known : (b : Bool) (k : Known) (d : ℕ) (i j : ℕ × ℕ) (r : Option (ℕ × ℕ)) → IsTermOf k i.0 × (i.1 ≤ d) → (r ≡ Some j → IsTermOf k j.0 × (j.1 ≤ d)) → (if b then Some i else r) ≡ Some j → IsTermOf k j.0 × (j.1 ≤ d)
+found_known true k d i j r n f e = some_is (λ (o : ℕ × ℕ). IsTermOf k o.0 × (o.1 ≤ d)) i j e n
+found_known false k d i j r n f e = f e
+
+pub local_known : (k : Known) (t : Sources) (x : Text) (d : ℕ) (ls : List Local) (j : ℕ × ℕ) → AreLocals k d ls → local_item t x ls ≡ Some j → IsTermOf k j.0 × (j.1 ≤ d)
+local_known k t x d [] j n e = cc
+local_known k t x d (l ∷ ls) j n e = found_known (bytes_eq x (word_at t l.name)) k d (l.term, l.at) j (local_item t x ls) n.0 (local_known k t x d ls j n.1) e
+
 -- a constant: its tree is made
 pub constant_named_is : (z : Site) (s : Stored) (text : Sources) (d : ℕ) (x : Text) (p : ℕ) (f : Frame) (r : Ref) → z.names.constant_named x ≡ Ok r → named_answer z s text d x p None f ≡ made_answer z s text p (Const r) f
 constant_named_is z s text d x p f r e = ap (λ (q : Result Ref Code). from_name (place_in text p) q >>= (λ r. made_answer z s text p (Const r) f)) e
+
+pub constant_row : (k c : Known) (text : Sources) (h : Here) (x : Text) (p r : ℕ) (f : Frame) (res : Result Next ElabFault) → k.names.constant_named x ≡ Ok (ref_at k.stored r)
+    → Steps k c text h (made_answer (site_in k text h) k.stored text p (node_tree k.stored (node.Const r)) f) res → Steps k c text h (named_answer (site_in k text h) k.stored text h.depth x p None f) res
+constant_row k c text h x p r f res e s = steps_same k c text h _ _ res (constant_named_is (site_in k text h) k.stored text h.depth x p f (ref_at k.stored r) (named_at_site k text h x (ref_at k.stored r) e)) s
 
 pub constant_unknown : (k : Known) (text : Sources) (h : Here) (d : ℕ) (x : Text) (p : ℕ) (f : Frame) (c : Code) → k.names.constant_named x ≡ Err c
     → Failed k k (named_answer (site_in k text h) k.stored text d x p None f) (fault_at (place_in text p) c)
@@ -158,6 +205,11 @@ type_named_is k text h x p r e d =
     not_bool k text h x p e
     ∙ ap (λ (q : Result Ref Code). formed_answer (from_name (place_in text p) q >>= (λ r. within_limits_at (place_in text p) (TName r) >>= accepted_at z (place_in text p)))) d
     ∙ then_same (within_limits_at (place_in text p) (TName r)) (accepted_at z (place_in text p)) (λ (u : Tree). Ok (Formed u))
+
+pub type_named_row : (k c : Known) (text : Sources) (h : Here) (x : Text) (p r : ℕ) (res : Result Next ElabFault) → is_bool x ≡ false → k.names.type_named x ≡ Ok (ref_at k.stored r)
+    → Steps k c text h (made_type_answer (site_in k text h) k.stored text p (node_tree k.stored (node.TName r)) (frame.Name name.Formed p)) res
+    → Steps k c text h (asked_at (site_in k text h) k.stored text mode.Formed (phrase.Name x (place_in text p))) res
+type_named_row k c text h x p r res e d s = steps_same k c text h _ _ res (type_named_is k text h x p (ref_at k.stored r) e d) s
 
 pub type_unknown : (k : Known) (text : Sources) (h : Here) (x : Text) (p : ℕ) (c : Code) → is_bool x ≡ false → k.names.type_named x ≡ Err c
     → Failed k k (asked_at (site_in k text h) k.stored text mode.Formed (phrase.Name x (place_in text p))) (fault_at (place_in text p) c)

@@ -10,7 +10,7 @@ ghost use Rattle.pvs_elaboration.specs.Machine.{Steps};
 
 use crate::fault::ElabFault;
 use crate::frame::{Frame, Next, ask_then, give_to};
-use crate::here::Here;
+use crate::here::{Here, Typed};
 use crate::listing::{Listing, fault_at};
 use crate::making::make_term;
 use crate::scope::Scope;
@@ -41,8 +41,31 @@ pub(crate) struct Operands {
     pub at: usize,
 }
 
+/// The head of the type of a function.
+#[tactic(auto, using(crate::proofs::ApplyLaws::function_follows))]
+fn head_of<S: Scope>(
+    scope: &mut S,
+    listing: &Listing,
+    here: &Here,
+    function: Typed,
+    operands: Operands,
+) -> Result<Next, ElabFault>
+    requires here { IsHere (S.known scope.old) here.now }
+    requires tree { IsTermOf (S.known scope.old) function.tree }
+    requires ty { IsTypeOf (S.known scope.old) function.ty }
+    ensures { (t : Sources) → Lists listing.now t → Steps (S.known scope.old) (S.known scope.new) t here.now (apply_answer (site_in (S.known scope.old) t here.now) (S.known scope.old).stored t apply_row.Function operands (meaning (S.known scope.old).stored (value.Typed function))) result }
+{
+    match scope.head(here, function.ty) {
+        Ok(head) => Ok(give_to(
+            Value::Formed(head),
+            Frame::Apply(ApplyRow::Head(function.tree), operands),
+        )),
+        Err(fault) => Err(fault_of(listing, operands.at, operands.at, fault)),
+    }
+}
+
 /// The argument, as one of the domain of a function type.
-#[tactic(auto, using(crate::proofs::ApplyLaws::head_follows, crate::proofs::ApplyLaws::not_a_function))]
+#[tactic(auto, using(crate::proofs::ApplyLaws::not_a_function))]
 fn ask_argument<S: Scope>(
     scope: &S,
     listing: &Listing,
@@ -64,6 +87,32 @@ fn ask_argument<S: Scope>(
         )),
         _ => Err(fault_at(listing, operands.at, Code::NotFunction)),
     }
+}
+
+/// The tree of a function and its argument.
+fn tree_of<S: Scope>(
+    scope: &mut S,
+    listing: &Listing,
+    here: &Here,
+    function: Id,
+    range: Id,
+    argument: Id,
+    operands: Operands,
+) -> Result<Next, ElabFault>
+    requires here { IsHere (S.known scope.old) here.now }
+    requires function { IsTermOf (S.known scope.old) function }
+    requires range { IsTypeOf (S.known scope.old) range }
+    requires argument { IsTermOf (S.known scope.old) argument }
+    ensures { (t : Sources) → Lists listing.now t → Steps (S.known scope.old) (S.known scope.new) t here.now (apply_answer (site_in (S.known scope.old) t here.now) (S.known scope.old).stored t (apply_row.Argument function range) operands (meaning (S.known scope.old).stored (value.Term argument))) result }
+{
+    make_term(
+        scope,
+        listing,
+        here,
+        operands.at,
+        Node::App(function, argument),
+        Frame::Apply(ApplyRow::Tree(range, argument), operands),
+    )
 }
 
 /// The range of a function type, with the argument in the place of its variable.
@@ -91,7 +140,7 @@ fn range_of<S: Scope>(
 }
 
 /// What is done with a value in an application.
-#[tactic(auto, using(crate::proofs::ApplyLaws::function_follows, crate::proofs::ApplyLaws::function_refused, crate::proofs::ApplyLaws::argument_row))]
+#[tactic(auto, using(crate::proofs::KnownLaws::memory_failed, crate::proofs::KnownLaws::grows_none))]
 pub(crate) fn resume_apply<S: Scope>(
     scope: &mut S,
     listing: &Listing,
@@ -107,13 +156,7 @@ pub(crate) fn resume_apply<S: Scope>(
 {
     match row {
         ApplyRow::Function => match value {
-            Value::Typed(function) => match scope.head(here, function.ty) {
-                Ok(head) => Ok(give_to(
-                    Value::Formed(head),
-                    Frame::Apply(ApplyRow::Head(function.tree), operands),
-                )),
-                Err(fault) => Err(fault_of(listing, operands.at, operands.at, fault)),
-            },
+            Value::Typed(function) => head_of(scope, listing, here, function, operands),
             _ => Err(ElabFault::Memory),
         },
         ApplyRow::Head(function) => match value {
@@ -121,18 +164,13 @@ pub(crate) fn resume_apply<S: Scope>(
             _ => Err(ElabFault::Memory),
         },
         ApplyRow::Argument(function, range) => match value {
-            Value::Term(argument) => make_term(
-                scope,
-                listing,
-                here,
-                operands.at,
-                Node::App(function, argument),
-                Frame::Apply(ApplyRow::Tree(range, argument), operands),
-            ),
+            Value::Term(argument) => {
+                tree_of(scope, listing, here, function, range, argument, operands)
+            }
             _ => Err(ElabFault::Memory),
         },
         ApplyRow::Tree(range, argument) => match value {
-            Value::Term(tree) => { range_of(scope, listing, here, tree, range, argument, operands) }
+            Value::Term(tree) => range_of(scope, listing, here, tree, range, argument, operands),
             _ => Err(ElabFault::Memory),
         },
     }

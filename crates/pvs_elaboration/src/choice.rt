@@ -3,7 +3,8 @@
 ghost use Rattle.std.specs.Prelude.{◌≡◌};
 ghost use Rattle.pvs_elaboration.specs.declared.frame.Entrance.TheVariants as spec_entrance;
 ghost use Rattle.pvs_elaboration.specs.declared.frame.Control.TheVariants as spec_control;
-ghost use Rattle.pvs_elaboration.specs.Known.{AreKnownNumbers, IsHere, site_in};
+ghost use Rattle.pvs_elaboration.specs.declared.frame.Frame.TheVariants as spec_frame;
+ghost use Rattle.pvs_elaboration.specs.Known.{AreKnownNumbers, IsHere, IsTermOf, site_in};
 ghost use Rattle.pvs_elaboration.specs.Meanings.{meaning, value_numbers};
 ghost use Rattle.pvs_elaboration.specs.Choice.{choice_answer, choice_numbers, not_answer, not_numbers};
 ghost use Rattle.pvs_elaboration.specs.declared.choice.ChoiceRow.TheVariants as choice_row;
@@ -101,6 +102,60 @@ fn join_under(
     }
 }
 
+/// The first branch as one of a type under the condition.
+fn join_first(
+    condition: Id,
+    first: Typed,
+    negation: Id,
+    second: Typed,
+    want: Id,
+    branches: Branches,
+) -> Next
+    ensures { result ≡ record { entrance = spec_entrance.Hypothesis condition; control = spec_control.Coerce first branches.first_at branches.join want; frame = spec_frame.Choice (choice_row.JoinSecond condition first negation second want) branches } }
+{
+    let branch = Typed {
+        tree: first.tree,
+        ty: first.ty,
+    };
+    let row = ChoiceRow::JoinSecond(condition, first, negation, second, want);
+    let frame = Frame::Choice(row, branches);
+    join_under(
+        condition,
+        branch,
+        branches.first_at,
+        branches.join,
+        want,
+        frame,
+    )
+}
+
+/// The second branch as one of a type under NOT of the condition.
+fn join_second(
+    condition: Id,
+    first: Typed,
+    negation: Id,
+    second: Typed,
+    want: Id,
+    branches: Branches,
+) -> Next
+    ensures { result ≡ record { entrance = spec_entrance.Hypothesis negation; control = spec_control.Coerce second branches.second_at branches.join want; frame = spec_frame.Choice (choice_row.Made condition first second want) branches } }
+{
+    let branch = Typed {
+        tree: second.tree,
+        ty: second.ty,
+    };
+    let row = ChoiceRow::Made(condition, first, second, want);
+    let frame = Frame::Choice(row, branches);
+    join_under(
+        negation,
+        branch,
+        branches.second_at,
+        branches.join,
+        want,
+        frame,
+    )
+}
+
 /// The tree of an early choice, before its branches are joined.
 fn join<S: Scope>(
     scope: &mut S,
@@ -116,26 +171,129 @@ fn join<S: Scope>(
     requires row { AreKnownNumbers (S.known scope.old) (choice_numbers (choice_row.Types condition first negation second)) }
     ensures { (t : Sources) → Lists listing.now t → Steps (S.known scope.old) (S.known scope.new) t here.now (choice_answer (site_in (S.known scope.old) t here.now) (S.known scope.old).stored t (choice_row.Join condition first negation) branches (meaning (S.known scope.old).stored (spec_value.Typed second))) result }
 {
-    let frame = Frame::Choice(
-        ChoiceRow::Types(condition, first, negation, second),
-        branches,
-    );
+    let node = Node::If(condition, first.tree, second.tree);
+    let row = ChoiceRow::Types(condition, first, negation, second);
+    let frame = Frame::Choice(row, branches);
     if branches.early {
-        make_term(
-            scope,
-            listing,
-            here,
-            branches.at,
-            Node::If(condition, first.tree, second.tree),
-            frame,
-        )
+        make_term(scope, listing, here, branches.at, node, frame)
     } else {
         Ok(give_to(Value::Term(condition), frame))
     }
 }
 
+/// What is done with a branch and its type in a choice.
+fn resume_branch<S: Scope>(
+    scope: &mut S,
+    listing: &Listing,
+    here: &Here,
+    row: ChoiceRow,
+    branches: Branches,
+    branch: Typed,
+) -> Result<Next, ElabFault>
+    requires here { IsHere (S.known scope.old) here.now }
+    requires row { AreKnownNumbers (S.known scope.old) (choice_numbers row) }
+    requires branch { AreKnownNumbers (S.known scope.old) (value_numbers (spec_value.Typed branch)) }
+    ensures { (t : Sources) → Lists listing.now t → Steps (S.known scope.old) (S.known scope.new) t here.now (choice_answer (site_in (S.known scope.old) t here.now) (S.known scope.old).stored t row branches (meaning (S.known scope.old).stored (spec_value.Typed branch))) result }
+{
+    match row {
+        ChoiceRow::Negation(p) => make_term(
+            scope,
+            listing,
+            here,
+            branches.at,
+            Node::If(p, here.no, here.yes),
+            Frame::Choice(ChoiceRow::Second(p, branch), branches),
+        ),
+        ChoiceRow::Join(p, one, n) => join(scope, listing, here, p, one, n, branch, branches),
+        _ => Err(ElabFault::Memory),
+    }
+}
+
+/// What is done with a term in a choice that is checked.
+fn resume_checked<S: Scope>(
+    scope: &mut S,
+    listing: &Listing,
+    here: &Here,
+    row: ChoiceRow,
+    branches: Branches,
+    term: Id,
+) -> Result<Next, ElabFault>
+    requires here { IsHere (S.known scope.old) here.now }
+    requires row { AreKnownNumbers (S.known scope.old) (choice_numbers row) }
+    requires term { IsTermOf (S.known scope.old) term }
+    ensures { (t : Sources) → Lists listing.now t → Steps (S.known scope.old) (S.known scope.new) t here.now (choice_answer (site_in (S.known scope.old) t here.now) (S.known scope.old).stored t row branches (meaning (S.known scope.old).stored (spec_value.Term term))) result }
+{
+    match row {
+        ChoiceRow::CheckFirst(want) => {
+            let frame = Frame::Choice(ChoiceRow::CheckNegation(want, term), branches);
+            Ok(ask_under(term, branches.first, Mode::Check(want), frame))
+        }
+        ChoiceRow::CheckNegation(want, p) => make_term(
+            scope,
+            listing,
+            here,
+            branches.at,
+            Node::If(p, here.no, here.yes),
+            Frame::Choice(ChoiceRow::CheckSecond(want, p, term), branches),
+        ),
+        ChoiceRow::CheckSecond(want, p, one) => {
+            let frame = Frame::Choice(ChoiceRow::CheckLast(p, one), branches);
+            Ok(ask_under(term, branches.second, Mode::Check(want), frame))
+        }
+        ChoiceRow::CheckLast(p, one) => make_term(
+            scope,
+            listing,
+            here,
+            branches.at,
+            Node::If(p, one, term),
+            Frame::Same,
+        ),
+        _ => Err(ElabFault::Memory),
+    }
+}
+
+/// What is done with a term in a choice.
+fn resume_term<S: Scope>(
+    scope: &mut S,
+    listing: &Listing,
+    here: &Here,
+    row: ChoiceRow,
+    branches: Branches,
+    term: Id,
+) -> Result<Next, ElabFault>
+    requires here { IsHere (S.known scope.old) here.now }
+    requires row { AreKnownNumbers (S.known scope.old) (choice_numbers row) }
+    requires term { IsTermOf (S.known scope.old) term }
+    ensures { (t : Sources) → Lists listing.now t → Steps (S.known scope.old) (S.known scope.new) t here.now (choice_answer (site_in (S.known scope.old) t here.now) (S.known scope.old).stored t row branches (meaning (S.known scope.old).stored (spec_value.Term term))) result }
+{
+    match row {
+        ChoiceRow::First => {
+            let frame = Frame::Choice(ChoiceRow::Negation(term), branches);
+            Ok(ask_under(term, branches.first, Mode::Infer, frame))
+        }
+        ChoiceRow::Second(p, one) => {
+            let frame = Frame::Choice(ChoiceRow::Join(p, one, term), branches);
+            Ok(ask_under(term, branches.second, Mode::Infer, frame))
+        }
+        ChoiceRow::Types(p, one, n, two) => {
+            join_types(scope, listing, here, p, one, n, two, branches)
+        }
+        ChoiceRow::JoinSecond(p, one, n, two, want) => {
+            Ok(join_second(p, one, n, two, want, branches))
+        }
+        ChoiceRow::Made(p, one, two, ty) => make_term(
+            scope,
+            listing,
+            here,
+            branches.at,
+            Node::If(p, one.tree, two.tree),
+            Frame::WithType(ty),
+        ),
+        _ => resume_checked(scope, listing, here, row, branches, term),
+    }
+}
+
 /// What is done with a value in a choice.
-#[tactic(auto, using(crate::proofs::ChoiceLaws::first_follows, crate::proofs::ChoiceLaws::second_follows, crate::proofs::ChoiceLaws::check_first_follows, crate::proofs::ChoiceLaws::check_second_follows))]
 pub(crate) fn resume_choice<S: Scope>(
     scope: &mut S,
     listing: &Listing,
@@ -149,119 +307,19 @@ pub(crate) fn resume_choice<S: Scope>(
     requires value { AreKnownNumbers (S.known scope.old) (value_numbers value) }
     ensures { (t : Sources) → Lists listing.now t → Steps (S.known scope.old) (S.known scope.new) t here.now (choice_answer (site_in (S.known scope.old) t here.now) (S.known scope.old).stored t row branches (meaning (S.known scope.old).stored value)) result }
 {
-    match row {
-        ChoiceRow::First => match value {
-            Value::Term(p) => Ok(ask_under(
-                p,
-                branches.first,
-                Mode::Infer,
-                Frame::Choice(ChoiceRow::Negation(p), branches),
-            )),
+    match value {
+        Value::Typed(branch) => resume_branch(scope, listing, here, row, branches, branch),
+        Value::Term(term) => resume_term(scope, listing, here, row, branches, term),
+        Value::Formed(want) => match row {
+            ChoiceRow::JoinFirst(p, one, n, two) => {
+                Ok(join_first(p, one, n, two, want, branches))
+            }
             _ => Err(ElabFault::Memory),
         },
-        ChoiceRow::Negation(p) => match value {
-            Value::Typed(one) => make_term(
-                scope,
-                listing,
-                here,
-                branches.at,
-                Node::If(p, here.no, here.yes),
-                Frame::Choice(ChoiceRow::Second(p, one), branches),
-            ),
-            _ => Err(ElabFault::Memory),
-        },
-        ChoiceRow::Second(p, one) => match value {
-            Value::Term(n) => Ok(ask_under(
-                n,
-                branches.second,
-                Mode::Infer,
-                Frame::Choice(ChoiceRow::Join(p, one, n), branches),
-            )),
-            _ => Err(ElabFault::Memory),
-        },
-        ChoiceRow::Join(p, one, n) => match value {
-            Value::Typed(two) => join(scope, listing, here, p, one, n, two, branches),
-            _ => Err(ElabFault::Memory),
-        },
-        ChoiceRow::Types(p, one, n, two) => match value {
-            Value::Term(_) => join_types(scope, listing, here, p, one, n, two, branches),
-            _ => Err(ElabFault::Memory),
-        },
-        ChoiceRow::General(p, one, n, two) => match value {
-            Value::Done => join_general(scope, listing, here, p, one, n, two, branches),
-            _ => Err(ElabFault::Memory),
-        },
-        ChoiceRow::JoinFirst(p, one, n, two) => match value {
-            Value::Formed(ty) => Ok(join_under(
-                p,
-                one,
-                branches.first_at,
-                branches.join,
-                ty,
-                Frame::Choice(ChoiceRow::JoinSecond(p, one, n, two, ty), branches),
-            )),
-            _ => Err(ElabFault::Memory),
-        },
-        ChoiceRow::JoinSecond(p, one, n, two, ty) => match value {
-            Value::Term(_) => Ok(join_under(
-                n,
-                two,
-                branches.second_at,
-                branches.join,
-                ty,
-                Frame::Choice(ChoiceRow::Made(p, one, two, ty), branches),
-            )),
-            _ => Err(ElabFault::Memory),
-        },
-        ChoiceRow::Made(p, one, two, ty) => match value {
-            Value::Term(_) => make_term(
-                scope,
-                listing,
-                here,
-                branches.at,
-                Node::If(p, one.tree, two.tree),
-                Frame::WithType(ty),
-            ),
-            _ => Err(ElabFault::Memory),
-        },
-        ChoiceRow::CheckFirst(want) => match value {
-            Value::Term(p) => Ok(ask_under(
-                p,
-                branches.first,
-                Mode::Check(want),
-                Frame::Choice(ChoiceRow::CheckNegation(want, p), branches),
-            )),
-            _ => Err(ElabFault::Memory),
-        },
-        ChoiceRow::CheckNegation(want, p) => match value {
-            Value::Term(one) => make_term(
-                scope,
-                listing,
-                here,
-                branches.at,
-                Node::If(p, here.no, here.yes),
-                Frame::Choice(ChoiceRow::CheckSecond(want, p, one), branches),
-            ),
-            _ => Err(ElabFault::Memory),
-        },
-        ChoiceRow::CheckSecond(want, p, one) => match value {
-            Value::Term(n) => Ok(ask_under(
-                n,
-                branches.second,
-                Mode::Check(want),
-                Frame::Choice(ChoiceRow::CheckLast(p, one), branches),
-            )),
-            _ => Err(ElabFault::Memory),
-        },
-        ChoiceRow::CheckLast(p, one) => match value {
-            Value::Term(two) => make_term(
-                scope,
-                listing,
-                here,
-                branches.at,
-                Node::If(p, one, two),
-                Frame::Same,
-            ),
+        Value::Done => match row {
+            ChoiceRow::General(p, one, n, two) => {
+                join_general(scope, listing, here, p, one, n, two, branches)
+            }
             _ => Err(ElabFault::Memory),
         },
     }
@@ -279,7 +337,6 @@ fn coerce_under(hypothesis: Id, tree: Id, ty: Id, at: usize, want: Id, frame: Fr
 }
 
 /// What is done with a value in NOT, which has the place `pos`. A mismatch has the place `at`.
-#[tactic(auto, using(crate::proofs::ChoiceLaws::false_follows, crate::proofs::ChoiceLaws::true_follows, crate::proofs::ChoiceLaws::last_follows))]
 pub(crate) fn resume_not<S: Scope>(
     scope: &mut S,
     listing: &Listing,

@@ -71,7 +71,6 @@ fn ask_right(sides: Sides, left: Typed) -> Next
 }
 
 /// The right side of IFF, where the left one is a truth value.
-#[tactic(auto, using(crate::proofs::EqualLaws::head_is_truth, crate::proofs::EqualLaws::head_is_no_truth))]
 fn resume_head<S: Scope>(
     scope: &S,
     listing: &Listing,
@@ -92,7 +91,6 @@ fn resume_head<S: Scope>(
 }
 
 /// The typing of a universal formula. Where typing refuses it, the fault is that of its text, if there is one.
-#[tactic(auto, using(crate::proofs::EqualLaws::forall_follows, crate::proofs::EqualLaws::forall_refused))]
 fn type_forall<S: Scope>(
     scope: &mut S,
     here: &Here,
@@ -122,7 +120,6 @@ fn type_forall<S: Scope>(
 }
 
 /// The most general type of the left side.
-#[tactic(auto, using(crate::proofs::EqualLaws::sides_follow, crate::proofs::EqualLaws::sides_refused))]
 fn type_sides<S: Scope>(
     scope: &mut S,
     listing: &Listing,
@@ -158,7 +155,6 @@ fn coerce_side(side: Typed, large: usize, at: usize, want: Id, frame: Frame) -> 
 }
 
 /// What is done with a term in an equation.
-#[tactic(auto, using(crate::proofs::EqualLaws::left_side_follows, crate::proofs::EqualLaws::equal_last_follows))]
 fn resume_tree<S: Scope>(
     scope: &mut S,
     listing: &Listing,
@@ -195,8 +191,28 @@ fn resume_tree<S: Scope>(
     }
 }
 
+/// The head of the type of the left side of IFF.
+fn left_head<S: Scope>(
+    scope: &mut S,
+    listing: &Listing,
+    here: &Here,
+    side: Typed,
+    sides: Sides,
+) -> Result<Next, ElabFault>
+    requires here { IsHere (S.known scope.old) here.now }
+    requires side { AreKnownNumbers (S.known scope.old) (value_numbers (value.Typed side)) }
+    ensures { (t : Sources) → Lists listing.now t → Steps (S.known scope.old) (S.known scope.new) t here.now (equal_answer (site_in (S.known scope.old) t here.now) (S.known scope.old).stored t equal_row.Iff sides (meaning (S.known scope.old).stored (value.Typed side))) result }
+{
+    match scope.head(here, side.ty) {
+        Ok(head) => Ok(give_to(
+            Value::Formed(head),
+            Frame::Equal(EqualRow::IffHead(side), sides),
+        )),
+        Err(fault) => Err(fault_of(listing, sides.left_at, sides.left_at, fault)),
+    }
+}
+
 /// What is done with a term and its type in an equation.
-#[tactic(auto, using(crate::proofs::EqualLaws::iff_follows, crate::proofs::EqualLaws::iff_refused, crate::proofs::EqualLaws::right_follows, crate::proofs::EqualLaws::equation_row))]
 fn resume_side<S: Scope>(
     scope: &mut S,
     listing: &Listing,
@@ -211,13 +227,7 @@ fn resume_side<S: Scope>(
     ensures { (t : Sources) → Lists listing.now t → Steps (S.known scope.old) (S.known scope.new) t here.now (equal_answer (site_in (S.known scope.old) t here.now) (S.known scope.old).stored t row sides (meaning (S.known scope.old).stored (value.Typed side))) result }
 {
     match row {
-        EqualRow::Iff => match scope.head(here, side.ty) {
-            Ok(head) => Ok(give_to(
-                Value::Formed(head),
-                Frame::Equal(EqualRow::IffHead(side), sides),
-            )),
-            Err(fault) => Err(fault_of(listing, sides.left_at, sides.left_at, fault)),
-        },
+        EqualRow::Iff => left_head(scope, listing, here, side, sides),
         EqualRow::Right => Ok(ask_right(sides, side)),
         EqualRow::Equation(left) => make_term(
             scope,
@@ -232,7 +242,6 @@ fn resume_side<S: Scope>(
 }
 
 /// What is done with a value in an equation.
-#[tactic(auto, using(crate::proofs::EqualLaws::right_side_follows, crate::proofs::EqualLaws::code_follows))]
 pub(crate) fn resume_equal<S: Scope>(
     scope: &mut S,
     listing: &Listing,
