@@ -26,7 +26,7 @@ use Rattle.pvs_elaboration.specs.declared.frame.Entrance.TheVariants as entrance
 use Rattle.pvs_elaboration.specs.declared.frame.Next.{Next}
 use Rattle.pvs_elaboration.specs.Known.{Sources, phrase_at, place_in, word_at, Known, site_in, IsHere, IsTypeOf}
 use Rattle.pvs_elaboration.specs.Meanings.{Typed, Term, Formed, Done, typed_at, typed_answer, elab_at}
-use Rattle.pvs_elaboration.specs.Binder.{all_equation, all_predicate, all_body, all_type, lambda_tree, lambda_body, lambda_type, predicate_type, function_range, function_domain, binder_after}
+use Rattle.pvs_elaboration.specs.Binder.{all_equation, all_predicate, all_body, all_type, lambda_tree, lambda_body, lambda_type, predicate_type, function_range, function_domain, binder_answer}
 use Rattle.pvs_elaboration.specs.Machine.{asked_at, made_answer, made_type_answer, Follows, Steps}
 use Rattle.pvs_elaboration.proofs.KnownLaws.{within_limits_made, beyond_limits}
 use Rattle.pvs_elaboration.proofs.MachineLaws.{then_typed, then_term, then_formed, then_same}
@@ -74,7 +74,7 @@ function_asked {k} text h d o =
 -- then the body
 
 pub all_follows : {k : Known} (text : Sources) (h : Here) (o : Binding) (c : ℕ) → IsHere k h → IsTypeOf k c
-    → Follows k k text h (binder_after (site_in k text h) k.stored text binder.All o (Formed (tree_at k.stored c))) (asked_below o c (mode.Check h.truth) (frame.Binder (binder.AllBody c) o))
+    → Follows k k text h (binder_answer (site_in k text h) k.stored text binder.All o (Formed (tree_at k.stored c))) (asked_below o c (mode.Check h.truth) (frame.Binder (binder.AllBody c) o))
 all_follows {k} text h o c i n =
     let z = site_in k text h in
     let p = elab_at z text o.body in
@@ -84,14 +84,14 @@ all_follows {k} text h o c i n =
     ∙ then_term (p.check there p.place (tree_at k.stored h.truth)) (all_body (place_in text o.at) (tree_at k.stored c)) (λ (t : TypedTree). Ok (Typed t)))
 
 pub lambda_follows : {k : Known} (text : Sources) (h : Here) (o : Binding) (c : ℕ) → IsTypeOf k c
-    → Follows k k text h (binder_after (site_in k text h) k.stored text binder.Lambda o (Formed (tree_at k.stored c))) (asked_below o c mode.Infer (frame.Binder (binder.LambdaBody c) o))
+    → Follows k k text h (binder_answer (site_in k text h) k.stored text binder.Lambda o (Formed (tree_at k.stored c))) (asked_below o c mode.Infer (frame.Binder (binder.LambdaBody c) o))
 lambda_follows {k} text h o c n =
     let z = site_in k text h in
     follows_at_once text h _ _ (record { entrance = (n, tt); control = tt; frame = (n, tt) })
     (then_typed ((elab_at z text o.body).infer (under_name (word_at text o.name) (tree_at k.stored c) z.here)) (lambda_body (place_in text o.at) (tree_at k.stored c)) (λ (t : TypedTree). Ok (Typed t)))
 
 pub predicate_body_follows : {k : Known} (text : Sources) (h : Here) (o : Binding) (c : ℕ) → IsHere k h → IsTypeOf k c
-    → Follows k k text h (binder_after (site_in k text h) k.stored text binder.Predicate o (Formed (tree_at k.stored c))) (asked_below o c (mode.Check h.truth) (frame.Binder binder.PredicateBody o))
+    → Follows k k text h (binder_answer (site_in k text h) k.stored text binder.Predicate o (Formed (tree_at k.stored c))) (asked_below o c (mode.Check h.truth) (frame.Binder binder.PredicateBody o))
 predicate_body_follows {k} text h o c i n =
     let z = site_in k text h in
     let p = elab_at z text o.body in
@@ -101,11 +101,11 @@ predicate_body_follows {k} text h o c i n =
     ∙ then_term (p.check there p.place (tree_at k.stored h.truth)) (λ (t : Tree). Ok tt) (λ (t : Unit {0}). Ok Done))
 
 pub predicate_done : {k : Known} (text : Sources) (h : Here) (o : Binding) (t : ℕ)
-    → Follows k k text h (binder_after (site_in k text h) k.stored text binder.PredicateBody o (Term (tree_at k.stored t))) (given value.Done frame.Same)
+    → Follows k k text h (binder_answer (site_in k text h) k.stored text binder.PredicateBody o (Term (tree_at k.stored t))) (given value.Done frame.Same)
 predicate_done text h o t = follows_at_once text h _ _ (record { entrance = tt; control = tt; frame = tt }) refl
 
 pub function_range_follows : {k : Known} (text : Sources) (h : Here) (o : Binding) (c : ℕ) → IsTypeOf k c
-    → Follows k k text h (binder_after (site_in k text h) k.stored text binder.Function o (Formed (tree_at k.stored c))) (asked_below o c mode.Formed (frame.Binder (binder.Range c) o))
+    → Follows k k text h (binder_answer (site_in k text h) k.stored text binder.Function o (Formed (tree_at k.stored c))) (asked_below o c mode.Formed (frame.Binder (binder.Range c) o))
 function_range_follows {k} text h o c n =
     let z = site_in k text h in
     follows_at_once text h _ _ (record { entrance = (n, tt); control = tt; frame = (n, tt) })
@@ -146,12 +146,12 @@ all_parts at c q =
 
 pub all_body_row : (k j : Known) (text : Sources) (h : Here) (o : Binding) (c q : ℕ) (res : Result Next ElabFault)
     → Steps k j text h (made_answer (site_in k text h) k.stored text o.at (node_tree k.stored (node.Lam c q)) (frame.Binder (binder.AllPredicate c) o)) res
-    → Steps k j text h (binder_after (site_in k text h) k.stored text (binder.AllBody c) o (Term (tree_at k.stored q))) res
+    → Steps k j text h (binder_answer (site_in k text h) k.stored text (binder.AllBody c) o (Term (tree_at k.stored q))) res
 all_body_row k j text h o c q res t = steps_same k j text h _ _ res (all_parts (place_in text o.at) (tree_at k.stored c) (tree_at k.stored q)) t
 
 pub all_predicate_row : (k j : Known) (text : Sources) (h : Here) (o : Binding) (c l : ℕ) (res : Result Next ElabFault) → IsHere k h
     → Steps k j text h (made_answer (site_in k text h) k.stored text o.at (node_tree k.stored (node.Lam c h.yes)) (frame.Binder (binder.AllEquation l) o)) res
-    → Steps k j text h (binder_after (site_in k text h) k.stored text (binder.AllPredicate c) o (Term (tree_at k.stored l))) res
+    → Steps k j text h (binder_answer (site_in k text h) k.stored text (binder.AllPredicate c) o (Term (tree_at k.stored l))) res
 all_predicate_row k j text h o c l res i t =
     steps_same k j text h _ _ res
     (then_same (within_limits_at (place_in text o.at) (Lam (tree_at k.stored c) True)) (all_equation (place_in text o.at) (tree_at k.stored l)) (λ (t : TypedTree). Ok (Typed t))
@@ -159,7 +159,7 @@ all_predicate_row k j text h o c l res i t =
 
 pub all_equation_row : (k j : Known) (text : Sources) (h : Here) (o : Binding) (l r : ℕ) (res : Result Next ElabFault) → IsHere k h
     → Steps k j text h (made_answer (site_in k text h) k.stored text o.at (node_tree k.stored (node.Eq l r)) (frame.WithType h.truth)) res
-    → Steps k j text h (binder_after (site_in k text h) k.stored text (binder.AllEquation l) o (Term (tree_at k.stored r))) res
+    → Steps k j text h (binder_answer (site_in k text h) k.stored text (binder.AllEquation l) o (Term (tree_at k.stored r))) res
 all_equation_row k j text h o l r res i t =
     steps_same k j text h _ _ res
     (then_same (within_limits_at (place_in text o.at) (Eq (tree_at k.stored l) (tree_at k.stored r))) (λ (t : Tree). Ok (record { tree = t; ty = TBool })) (λ (t : TypedTree). Ok (Typed t))
@@ -167,17 +167,17 @@ all_equation_row k j text h o l r res i t =
 
 pub lambda_body_row : (k j : Known) (text : Sources) (h : Here) (o : Binding) (c : ℕ) (e : here.Typed) (res : Result Next ElabFault)
     → Steps k j text h (made_answer (site_in k text h) k.stored text o.at (node_tree k.stored (node.Lam c e.tree)) (frame.Binder (binder.LambdaTree c e.ty) o)) res
-    → Steps k j text h (binder_after (site_in k text h) k.stored text (binder.LambdaBody c) o (Typed (typed_at k.stored e))) res
+    → Steps k j text h (binder_answer (site_in k text h) k.stored text (binder.LambdaBody c) o (Typed (typed_at k.stored e))) res
 lambda_body_row k j text h o c e res t =
     steps_same k j text h _ _ res (then_same (within_limits_at (place_in text o.at) (Lam (tree_at k.stored c) (tree_at k.stored e.tree))) (lambda_tree (place_in text o.at) (tree_at k.stored c) (tree_at k.stored e.ty)) (λ (t : TypedTree). Ok (Typed t))) t
 
 pub lambda_tree_row : (k j : Known) (text : Sources) (h : Here) (o : Binding) (c e t : ℕ) (res : Result Next ElabFault)
     → Steps k j text h (made_type_answer (site_in k text h) k.stored text o.at (node_tree k.stored (node.TFun c e)) (frame.WithTerm t)) res
-    → Steps k j text h (binder_after (site_in k text h) k.stored text (binder.LambdaTree c e) o (Term (tree_at k.stored t))) res
+    → Steps k j text h (binder_answer (site_in k text h) k.stored text (binder.LambdaTree c e) o (Term (tree_at k.stored t))) res
 lambda_tree_row k j text h o c e t res s =
     steps_same k j text h _ _ res (then_same (within_limits_at (place_in text o.at) (TFun (tree_at k.stored c) (tree_at k.stored e))) (λ (u : Tree). Ok (record { tree = tree_at k.stored t; ty = u })) (λ (t : TypedTree). Ok (Typed t))) s
 
 pub range_row : (k j : Known) (text : Sources) (h : Here) (o : Binding) (c e : ℕ) (res : Result Next ElabFault)
     → Steps k j text h (made_type_answer (site_in k text h) k.stored text o.at (node_tree k.stored (node.TFun c e)) frame.Same) res
-    → Steps k j text h (binder_after (site_in k text h) k.stored text (binder.Range c) o (Formed (tree_at k.stored e))) res
+    → Steps k j text h (binder_answer (site_in k text h) k.stored text (binder.Range c) o (Formed (tree_at k.stored e))) res
 range_row k j text h o c e res s = steps_same k j text h _ _ res refl s

@@ -27,7 +27,7 @@ use Rattle.pvs_elaboration.specs.declared.frame.Entrance.TheVariants as entrance
 use Rattle.pvs_elaboration.specs.declared.frame.Next.{Next}
 use Rattle.pvs_elaboration.specs.Known.{Sources, place_in, Known, site_in, IsHere, IsTermOf, AreKnownNumbers}
 use Rattle.pvs_elaboration.specs.Meanings.{Meaning, Term, Typed, typed_at, term_answer, on_term, elab_at}
-use Rattle.pvs_elaboration.specs.Choice.{places_of, join, branch_second, branch_negation, choice_after, choice_numbers, not_after, not_numbers, not_tree, not_true, check_negation, check_second, check_last}
+use Rattle.pvs_elaboration.specs.Choice.{places_of, join, branch_second, branch_negation, choice_answer, choice_numbers, not_answer, not_numbers, not_tree, not_true, check_negation, check_second, check_last}
 use Rattle.pvs_elaboration.specs.Machine.{made_answer, Follows, Steps}
 use Rattle.pvs_elaboration.proofs.MachineLaws.{then_typed, then_term, then_same}
 use Rattle.pvs_elaboration.proofs.StepLaws.{given, follows_at_once, steps_same}
@@ -37,7 +37,7 @@ abbrev pub asked_under : ℕ → ℕ → Mode → Frame → Next
 asked_under p x m f = record { entrance = entrance.Hypothesis p; control = control.Ask x m; frame = f }
 
 pub first_follows : {k : Known} (text : Sources) (h : Here) (b : Branches) (p : ℕ) → IsTermOf k p
-    → Follows k k text h (choice_after (site_in k text h) k.stored text First b (Term (tree_at k.stored p))) (asked_under p b.first mode.Infer (frame.Choice (Negation p) b))
+    → Follows k k text h (choice_answer (site_in k text h) k.stored text First b (Term (tree_at k.stored p))) (asked_under p b.first mode.Infer (frame.Choice (Negation p) b))
 first_follows {k} text h b p n =
     let z = site_in k text h in
     follows_at_once text h _ _ (record { entrance = (n, tt); control = tt; frame = (n, tt) })
@@ -45,7 +45,7 @@ first_follows {k} text h b p n =
     (branch_negation z b.early (places_of text b) (elab_at z text b.second) (tree_at k.stored p)) (λ (x : definition.TypedTree). Ok (Typed x)))
 
 pub second_follows : {k : Known} (text : Sources) (h : Here) (b : Branches) (p : ℕ) (a : here.Typed) (n : ℕ) → IsTermOf k n → AreKnownNumbers k (choice_numbers (Second p a))
-    → Follows k k text h (choice_after (site_in k text h) k.stored text (Second p a) b (Term (tree_at k.stored n))) (asked_under n b.second mode.Infer (frame.Choice (Join p a n) b))
+    → Follows k k text h (choice_answer (site_in k text h) k.stored text (Second p a) b (Term (tree_at k.stored n))) (asked_under n b.second mode.Infer (frame.Choice (Join p a n) b))
 second_follows {k} text h b p a n m r =
     let z = site_in k text h in
     follows_at_once text h _ _ (record { entrance = (m, tt); control = tt; frame = (r.0, (r.1.0, (r.1.1.0, (m, tt)))) })
@@ -53,7 +53,7 @@ second_follows {k} text h b p a n m r =
     (join z b.early (places_of text b) (tree_at k.stored p) (typed_at k.stored a) (tree_at k.stored n)) (λ (x : definition.TypedTree). Ok (Typed x)))
 
 pub check_first_follows : {k : Known} (text : Sources) (h : Here) (b : Branches) (u p : ℕ) → IsTermOf k p → AreKnownNumbers k (choice_numbers (CheckFirst u))
-    → Follows k k text h (choice_after (site_in k text h) k.stored text (CheckFirst u) b (Term (tree_at k.stored p))) (asked_under p b.first (mode.Check u) (frame.Choice (CheckNegation u p) b))
+    → Follows k k text h (choice_answer (site_in k text h) k.stored text (CheckFirst u) b (Term (tree_at k.stored p))) (asked_under p b.first (mode.Check u) (frame.Choice (CheckNegation u p) b))
 check_first_follows {k} text h b u p n r =
     let z = site_in k text h in
     follows_at_once text h _ _ (record { entrance = (n, tt); control = r; frame = (r.0, (n, tt)) })
@@ -61,7 +61,7 @@ check_first_follows {k} text h b u p n r =
     (check_negation (elab_at z text b.second) (place_in text b.at) z.here (tree_at k.stored u) (tree_at k.stored p)) (λ (x : Tree). Ok (Term x)))
 
 pub check_second_follows : {k : Known} (text : Sources) (h : Here) (b : Branches) (u p a n : ℕ) → IsTermOf k n → AreKnownNumbers k (choice_numbers (CheckSecond u p a))
-    → Follows k k text h (choice_after (site_in k text h) k.stored text (CheckSecond u p a) b (Term (tree_at k.stored n))) (asked_under n b.second (mode.Check u) (frame.Choice (CheckLast p a) b))
+    → Follows k k text h (choice_answer (site_in k text h) k.stored text (CheckSecond u p a) b (Term (tree_at k.stored n))) (asked_under n b.second (mode.Check u) (frame.Choice (CheckLast p a) b))
 check_second_follows {k} text h b u p a n m r =
     let z = site_in k text h in
     follows_at_once text h _ _ (record { entrance = (m, tt); control = (r.0, tt); frame = r.1 })
@@ -78,7 +78,7 @@ negation_made text h at p f g i = then_same _ f g ∙ ap (λ t. within_limits_at
 
 pub negation_row : (k c : Known) (text : Sources) (h : Here) (b : Branches) (p : ℕ) (a : here.Typed) (res : Result Next ElabFault) → IsHere k h
     → Steps k c text h (made_answer (site_in k text h) k.stored text b.at (node_tree k.stored (node.If p h.no h.yes)) (frame.Choice (Second p a) b)) res
-    → Steps k c text h (choice_after (site_in k text h) k.stored text (Negation p) b (Typed (typed_at k.stored a))) res
+    → Steps k c text h (choice_answer (site_in k text h) k.stored text (Negation p) b (Typed (typed_at k.stored a))) res
 negation_row k c text h b p a res i t =
     let z = site_in k text h in
     steps_same k c text h _ _ res (negation_made text h b.at p
@@ -86,21 +86,26 @@ negation_row k c text h b p a res i t =
 
 pub check_negation_row : (k c : Known) (text : Sources) (h : Here) (b : Branches) (u p a : ℕ) (res : Result Next ElabFault) → IsHere k h
     → Steps k c text h (made_answer (site_in k text h) k.stored text b.at (node_tree k.stored (node.If p h.no h.yes)) (frame.Choice (CheckSecond u p a) b)) res
-    → Steps k c text h (choice_after (site_in k text h) k.stored text (CheckNegation u p) b (Term (tree_at k.stored a))) res
+    → Steps k c text h (choice_answer (site_in k text h) k.stored text (CheckNegation u p) b (Term (tree_at k.stored a))) res
 check_negation_row k c text h b u p a res i t =
     let z = site_in k text h in
     steps_same k c text h _ _ res (negation_made text h b.at p
     (check_second (elab_at z text b.second) (place_in text b.at) z.here (tree_at k.stored u) (tree_at k.stored p) (tree_at k.stored a)) (λ (x : Tree). Ok (Term x)) i) t
 
+pub check_last_row : (k c : Known) (text : Sources) (h : Here) (b : Branches) (p x y : ℕ) (res : Result Next ElabFault)
+    → Steps k c text h (made_answer (site_in k text h) k.stored text b.at (node_tree k.stored (node.If p x y)) frame.Same) res
+    → Steps k c text h (choice_answer (site_in k text h) k.stored text (CheckLast p x) b (Term (tree_at k.stored y))) res
+check_last_row k c text h b p x y res t = steps_same k c text h _ _ res refl t
+
 pub not_row : (k c : Known) (text : Sources) (h : Here) (pos at : ℕ) (p : ℕ) (res : Result Next ElabFault) → IsHere k h
     → Steps k c text h (made_answer (site_in k text h) k.stored text pos (node_tree k.stored (node.If p h.no h.yes)) (frame.WithType h.truth)) res
-    → Steps k c text h (not_after (site_in k text h) k.stored text not_form.Tree pos at (Term (tree_at k.stored p))) res
+    → Steps k c text h (not_answer (site_in k text h) k.stored text not_form.Tree pos at (Term (tree_at k.stored p))) res
 not_row k c text h pos at p res i t =
     steps_same k c text h _ _ res (negation_made text h pos p (λ (n : Tree). Ok (record { tree = n; ty = TBool })) (λ (x : definition.TypedTree). Ok (Typed x)) i ∙ ap (λ (u : Tree). within_limits_at (place_in text pos) (node_tree k.stored (node.If p h.no h.yes)) >>= (λ t. Ok (Typed (record { tree = t; ty = u })))) (sym i.is_truth)) t
 
 pub not_negation_row : (k c : Known) (text : Sources) (h : Here) (pos at : ℕ) (u p f : ℕ) (res : Result Next ElabFault) → IsHere k h
     → Steps k c text h (made_answer (site_in k text h) k.stored text pos (node_tree k.stored (node.If p h.no h.yes)) (frame.Not (not_form.True u) pos at)) res
-    → Steps k c text h (not_after (site_in k text h) k.stored text (not_form.Negation u p) pos at (Term (tree_at k.stored f))) res
+    → Steps k c text h (not_answer (site_in k text h) k.stored text (not_form.Negation u p) pos at (Term (tree_at k.stored f))) res
 not_negation_row k c text h pos at u p f res i t =
     steps_same k c text h _ _ res (negation_made text h pos p (not_true (site_in k text h) (place_in text at) (tree_at k.stored u)) (λ (x : Tree). Ok (Term x)) i) t
 
@@ -120,19 +125,19 @@ abbrev pub coerces_under : ℕ → ℕ → ℕ → ℕ → ℕ → Frame → Nex
 coerces_under p t a at u f = record { entrance = entrance.Hypothesis p; control = control.Coerce (record { tree = t; ty = a }) at at u; frame = f }
 
 pub false_follows : {k : Known} (text : Sources) (h : Here) (pos at : ℕ) (u p : ℕ) → IsHere k h → IsTermOf k p → AreKnownNumbers k (not_numbers (not_form.False u))
-    → Follows k k text h (not_after (site_in k text h) k.stored text (not_form.False u) pos at (Term (tree_at k.stored p))) (coerces_under p h.no h.truth at u (frame.Not (not_form.Negation u p) pos at))
+    → Follows k k text h (not_answer (site_in k text h) k.stored text (not_form.False u) pos at (Term (tree_at k.stored p))) (coerces_under p h.no h.truth at u (frame.Not (not_form.Negation u p) pos at))
 unfolding site_in
 false_follows {k} text h pos at u p i n r =
     follows_at_once text h _ _ (record { entrance = (n, tt); control = (i.no, (i.truth, r)); frame = (r.0, (n, tt)) })
     (coerced_under k h text (place_in text at) h.no h.truth False TBool (tree_at k.stored u) (tree_at k.stored p) (not_tree (site_in k text h) (place_in text pos) (place_in text at) (tree_at k.stored u) (tree_at k.stored p)) i.is_no i.is_truth)
 
 pub true_follows : {k : Known} (text : Sources) (h : Here) (pos at : ℕ) (u n : ℕ) → IsHere k h → IsTermOf k n → AreKnownNumbers k (not_numbers (not_form.True u))
-    → Follows k k text h (not_after (site_in k text h) k.stored text (not_form.True u) pos at (Term (tree_at k.stored n))) (coerces_under n h.yes h.truth at u (frame.Not (not_form.Last n) pos at))
+    → Follows k k text h (not_answer (site_in k text h) k.stored text (not_form.True u) pos at (Term (tree_at k.stored n))) (coerces_under n h.yes h.truth at u (frame.Not (not_form.Last n) pos at))
 unfolding site_in
 true_follows {k} text h pos at u n i m r =
     follows_at_once text h _ _ (record { entrance = (m, tt); control = (i.yes, (i.truth, r)); frame = (m, tt) })
     (coerced_under k h text (place_in text at) h.yes h.truth True TBool (tree_at k.stored u) (tree_at k.stored n) (Ok (tree_at k.stored n)) i.is_yes i.is_truth)
 
 pub last_follows : {k : Known} (text : Sources) (h : Here) (pos at : ℕ) (n p : ℕ) → AreKnownNumbers k (not_numbers (not_form.Last n))
-    → Follows k k text h (not_after (site_in k text h) k.stored text (not_form.Last n) pos at (Term (tree_at k.stored p))) (given (value.Term n) frame.Same)
+    → Follows k k text h (not_answer (site_in k text h) k.stored text (not_form.Last n) pos at (Term (tree_at k.stored p))) (given (value.Term n) frame.Same)
 last_follows text h pos at n p r = follows_at_once text h _ _ (record { entrance = tt; control = r; frame = tt }) refl

@@ -4,9 +4,11 @@ use Rattle.std.specs.Prelude.{if◌then◌else◌, Result, Ok, Err}
 use Rattle.pvs_base.specs.Answers.{◌>>=◌}
 use Rattle.pvs_base.specs.declared.place.Pos.{Pos}
 use Rattle.pvs_base.specs.declared.code.Code.{Code}
+use Rattle.pvs_base.specs.declared.code.Code.TheVariants.{Mismatch}
 use Rattle.pvs_terms.specs.Tree.{Tree, TBool, Eq}
+use Rattle.pvs_terms.specs.declared.node.Node.{Node}
 use Rattle.pvs_terms.specs.declared.node.Node.TheVariants as node
-use Rattle.pvs_terms.specs.Stored.{tree_at, node_tree}
+use Rattle.pvs_terms.specs.Stored.{Stored, tree_at, node_tree}
 use Rattle.pvs_subst.specs.Contexts.{context_at}
 use Rattle.pvs_types.specs.Outcome.{Outcome, Refused, from_result}
 use Rattle.pvs_types.specs.Forms.{head, most}
@@ -33,7 +35,7 @@ use Rattle.pvs_elaboration.specs.declared.frame.Entrance.TheVariants as entrance
 use Rattle.pvs_elaboration.specs.declared.frame.Next.{Next}
 use Rattle.pvs_elaboration.specs.Known.{Sources, phrase_at, place_in, Known, Grows, Accepts, Site, site_in, IsHere, IsTypeOf, IsTermOf, AreKnownNumbers, Failed}
 use Rattle.pvs_elaboration.specs.Meanings.{Meaning, Typed, Term, Formed, Done, value_numbers, typed_at, typed_answer, done_answer, on_typed, on_done, fault_of, fault_at, elab_at}
-use Rattle.pvs_elaboration.specs.Equal.{equal_last, equal_left, equal_right, equal_sides, equal_forall, equal_typing, equal_tree, equal_first, iff_head, iff_first, equal_after, equal_numbers}
+use Rattle.pvs_elaboration.specs.Equal.{equal_last, equal_left, equal_right, equal_sides, equal_forall, equal_typing, equal_tree, equal_first, iff_head, iff_first, equal_answer, equal_numbers}
 use Rattle.pvs_elaboration.specs.Machine.{asked_at, made_answer, Follows, Steps}
 use Rattle.pvs_elaboration.proofs.KnownLaws.{grows_none, number_stays, tree_stays, site_kept}
 use Rattle.pvs_elaboration.proofs.MachineLaws.{then_typed, then_same, then_two, then_alike, coerced_unused, failed_same}
@@ -98,7 +100,7 @@ iff_asked {k} text h o p q =
 
 pub iff_follows : {a b : Known} (text : Sources) (h : Here) (o : Sides) (c : here.Typed) (i : ℕ) → Grows a b → IsHere a h → AreKnownNumbers a (value_numbers (value.Typed c)) → IsTypeOf b i
     → head a.lookups (tree_at a.stored c.ty) ≡ Ok (tree_at b.stored i)
-    → Follows a b text h (equal_after (site_in a text h) a.stored text equal.Iff o (Typed (typed_at a.stored c))) (given (value.Formed i) (frame.Equal (equal.IffHead c) o))
+    → Follows a b text h (equal_answer (site_in a text h) a.stored text equal.Iff o (Typed (typed_at a.stored c))) (given (value.Formed i) (frame.Equal (equal.IffHead c) o))
 unfolding site_in
 iff_follows {a} text h o c i g n m t e =
     let z = site_in a text h in
@@ -106,7 +108,7 @@ iff_follows {a} text h o c i g n m t e =
     (λ (t : TypedTree). Ok (Typed t)) (frame.Equal (equal.IffHead c) o) i g n m t e (λ t. refl)
 
 pub iff_refused : {a b : Known} (text : Sources) (h : Here) (o : Sides) (c : here.Typed) (e : TypeFault) → Grows a b → IsRefusal (head a.lookups (tree_at a.stored c.ty)) e
-    → Failed a b (equal_after (site_in a text h) a.stored text equal.Iff o (Typed (typed_at a.stored c))) (fault_of (place_in text o.left_at) (place_in text o.left_at) e)
+    → Failed a b (equal_answer (site_in a text h) a.stored text equal.Iff o (Typed (typed_at a.stored c))) (fault_of (place_in text o.left_at) (place_in text o.left_at) e)
 unfolding site_in
 iff_refused {a} text h o c e g x =
     let z = site_in a text h in
@@ -120,15 +122,34 @@ right_asked : (z : Site) (text : Sources) (o : Sides) (a : TypedTree)
 right_asked z text o a = then_typed ((elab_at z text o.right).infer z.here) (equal_tree z (elab_at z text o.left) (place_in text o.left_at) (place_in text o.right_at) a) (λ (t : TypedTree). Ok (Typed t))
 
 pub head_is_truth : {k : Known} (text : Sources) (h : Here) (o : Sides) (c : here.Typed) (i : ℕ) → AreKnownNumbers k (equal_numbers (equal.IffHead c)) → tree_at k.stored i ≡ TBool
-    → Follows k k text h (equal_after (site_in k text h) k.stored text (equal.IffHead c) o (Formed (tree_at k.stored i))) (asked_then o.right mode.Infer (frame.Equal (equal.Equation c) o))
+    → Follows k k text h (equal_answer (site_in k text h) k.stored text (equal.IffHead c) o (Formed (tree_at k.stored i))) (asked_then o.right mode.Infer (frame.Equal (equal.Equation c) o))
 head_is_truth {k} text h o c i n e =
     let z = site_in k text h in
     follows_at_once text h _ _ (record { entrance = tt; control = tt; frame = n })
     (ap (λ (t : Tree). typed_answer (iff_head z (elab_at z text o.left) (elab_at z text o.right) (place_in text o.left_at) (place_in text o.right_at) (typed_at k.stored c) t)) e
     ∙ right_asked z text o (typed_at k.stored c))
 
+-- no other node is the type of truth values
+pub other_head : (s : Stored) (n : Node) → ¬ (n ≡ node.TBool) → truth_type (node_tree s n) ≡ Refused Mismatch
+other_head s node.TBool h = absurd (h refl)
+other_head s (node.TName r) h = refl
+other_head s (node.TSub a p) h = refl
+other_head s (node.TFun a b) h = refl
+other_head s (node.TPair k a b) h = refl
+other_head s (node.Var n) h = refl
+other_head s (node.Const r) h = refl
+other_head s node.True h = refl
+other_head s node.False h = refl
+other_head s (node.Lam a b) h = refl
+other_head s (node.App a b) h = refl
+other_head s (node.Tup k a b) h = refl
+other_head s (node.Fst k a) h = refl
+other_head s (node.Snd k a) h = refl
+other_head s (node.If a b c) h = refl
+other_head s (node.Eq a b) h = refl
+
 pub head_is_no_truth : (k : Known) (text : Sources) (h : Here) (o : Sides) (c : here.Typed) (t : Tree) (e : Code) → truth_type t ≡ Refused e
-    → Failed k k (equal_after (site_in k text h) k.stored text (equal.IffHead c) o (Formed t)) (fault_at (place_of_code (place_in text o.left_at) (place_in text o.left_at) e) e)
+    → Failed k k (equal_answer (site_in k text h) k.stored text (equal.IffHead c) o (Formed t)) (fault_at (place_of_code (place_in text o.left_at) (place_in text o.left_at) e) e)
 head_is_no_truth k text h o c t e x =
     let z = site_in k text h in
     record {
@@ -137,14 +158,14 @@ head_is_no_truth k text h o c t e x =
     }
 
 pub right_follows : {k : Known} (text : Sources) (h : Here) (o : Sides) (c : here.Typed) → AreKnownNumbers k (value_numbers (value.Typed c))
-    → Follows k k text h (equal_after (site_in k text h) k.stored text equal.Right o (Typed (typed_at k.stored c))) (asked_then o.right mode.Infer (frame.Equal (equal.Equation c) o))
+    → Follows k k text h (equal_answer (site_in k text h) k.stored text equal.Right o (Typed (typed_at k.stored c))) (asked_then o.right mode.Infer (frame.Equal (equal.Equation c) o))
 right_follows {k} text h o c n = follows_at_once text h _ _ (record { entrance = tt; control = tt; frame = n }) (right_asked (site_in k text h) text o (typed_at k.stored c))
 
 -- the tree
 
 pub equation_row : (k j : Known) (text : Sources) (h : Here) (o : Sides) (a b : here.Typed) (res : Result Next ElabFault)
     → Steps k j text h (made_answer (site_in k text h) k.stored text o.left_at (node_tree k.stored (node.Eq a.tree b.tree)) (frame.Equal (equal.Typing a b) o)) res
-    → Steps k j text h (equal_after (site_in k text h) k.stored text (equal.Equation a) o (Typed (typed_at k.stored b))) res
+    → Steps k j text h (equal_answer (site_in k text h) k.stored text (equal.Equation a) o (Typed (typed_at k.stored b))) res
 equation_row k j text h o a b res t =
     let z = site_in k text h in
     steps_same k j text h _ _ res
@@ -168,7 +189,7 @@ text_refused {A} (Err x) at o c f e = ap (λ (q : Outcome A). from_text_or_outco
 
 pub forall_follows : {a b : Known} (text : Sources) (h : Here) (o : Sides) (p q : here.Typed) (t : ℕ) → Grows a b → IsHere a h → IsTermOf a t → is_forall (tree_at a.stored p.tree) (tree_at a.stored q.tree) ≡ true
     → Accepts ((typing a.lookups (tree_at a.stored p.tree)).predicate (context_at a.stored h.context.items)) tt
-    → Follows a b text h (equal_after (site_in a text h) a.stored text (equal.Typing p q) o (Term (tree_at a.stored t))) (given (value.Typed (record { tree = t; ty = h.truth })) frame.Same)
+    → Follows a b text h (equal_answer (site_in a text h) a.stored text (equal.Typing p q) o (Term (tree_at a.stored t))) (given (value.Typed (record { tree = t; ty = h.truth })) frame.Same)
 unfolding site_in
 forall_follows {a} {b} text h o p q t g i n e x =
     let z = site_in a text h in
@@ -183,7 +204,7 @@ forall_follows {a} {b} text h o p q t g i n e x =
 
 pub forall_refused : {a b : Known} (text : Sources) (h : Here) (o : Sides) (p q : here.Typed) (t : ℕ) (c : Code) → Grows a b → IsHere a h → is_forall (tree_at a.stored p.tree) (tree_at a.stored q.tree) ≡ true
     → (typing a.lookups (tree_at a.stored p.tree)).predicate (context_at a.stored h.context.items) ≡ Refused c
-    → Follows a b text h (equal_after (site_in a text h) a.stored text (equal.Typing p q) o (Term (tree_at a.stored t))) (asked_then o.left mode.Predicate (frame.Equal (equal.Refused c) o))
+    → Follows a b text h (equal_answer (site_in a text h) a.stored text (equal.Typing p q) o (Term (tree_at a.stored t))) (asked_then o.left mode.Predicate (frame.Equal (equal.Refused c) o))
 unfolding site_in
 forall_refused {a} {b} text h o p q t c g i e x =
     let z = site_in a text h in
@@ -197,14 +218,14 @@ forall_refused {a} {b} text h o p q t c g i e x =
           ∙ ap (λ (s : Site). done_answer ((elab_at s text o.left).predicate s.here) >>= on_done (fault (place_in text o.left_at) c)) (sym (site_kept text h g i));
     }
 
-pub code_follows : (k : Known) (text : Sources) (h : Here) (o : Sides) (c : Code) → Failed k k (equal_after (site_in k text h) k.stored text (equal.Refused c) o Done) (fault_at (place_in text o.left_at) c)
+pub code_follows : (k : Known) (text : Sources) (h : Here) (o : Sides) (c : Code) → Failed k k (equal_answer (site_in k text h) k.stored text (equal.Refused c) o Done) (fault_at (place_in text o.left_at) c)
 code_follows k text h o c = record { kept = grows_none k; is = refl }
 
 -- Another equation: the most general type of the left side, and both sides as ones of it.
 
 pub sides_follow : {a b : Known} (text : Sources) (h : Here) (o : Sides) (p q : here.Typed) (t i : ℕ) → Grows a b → IsHere a h → AreKnownNumbers a (equal_numbers (equal.RightSide p q t)) → IsTypeOf b i
     → is_forall (tree_at a.stored p.tree) (tree_at a.stored q.tree) ≡ false → most a.lookups (tree_at a.stored p.ty) ≡ Ok (tree_at b.stored i)
-    → Follows a b text h (equal_after (site_in a text h) a.stored text (equal.Typing p q) o (Term (tree_at a.stored t))) (given (value.Formed i) (frame.Equal (equal.RightSide p q t) o))
+    → Follows a b text h (equal_answer (site_in a text h) a.stored text (equal.Typing p q) o (Term (tree_at a.stored t))) (given (value.Formed i) (frame.Equal (equal.RightSide p q t) o))
 unfolding site_in
 sides_follow {a} {b} text h o p q t i g n m k e d =
     let z = site_in a text h in
@@ -215,7 +236,7 @@ sides_follow {a} {b} text h o p q t i g n m k e d =
 
 pub sides_refused : {a b : Known} (text : Sources) (h : Here) (o : Sides) (p q : here.Typed) (t : ℕ) (c : TypeFault) → Grows a b → is_forall (tree_at a.stored p.tree) (tree_at a.stored q.tree) ≡ false
     → IsRefusal (most a.lookups (tree_at a.stored p.ty)) c
-    → Failed a b (equal_after (site_in a text h) a.stored text (equal.Typing p q) o (Term (tree_at a.stored t))) (fault_of (place_in text o.left_at) (place_in text o.left_at) c)
+    → Failed a b (equal_answer (site_in a text h) a.stored text (equal.Typing p q) o (Term (tree_at a.stored t))) (fault_of (place_in text o.left_at) (place_in text o.left_at) c)
 unfolding site_in
 sides_refused {a} {b} text h o p q t c g e x =
     let z = site_in a text h in
@@ -228,7 +249,7 @@ abbrev pub coerces : here.Typed → ℕ → ℕ → ℕ → Frame → Next
 coerces t large at u f = record { entrance = entrance.Here; control = control.Coerce t large at u; frame = f }
 
 pub right_side_follows : {k : Known} (text : Sources) (h : Here) (o : Sides) (p q : here.Typed) (t i : ℕ) → IsTypeOf k i → AreKnownNumbers k (equal_numbers (equal.RightSide p q t))
-    → Follows k k text h (equal_after (site_in k text h) k.stored text (equal.RightSide p q t) o (Formed (tree_at k.stored i))) (coerces q o.right_at o.right_at i (frame.Equal (equal.LeftSide p t i) o))
+    → Follows k k text h (equal_answer (site_in k text h) k.stored text (equal.RightSide p q t) o (Formed (tree_at k.stored i))) (coerces q o.right_at o.right_at i (frame.Equal (equal.LeftSide p t i) o))
 right_side_follows {k} text h o p q t i n m =
     let z = site_in k text h in
     follows_at_once text h _ _ (record { entrance = tt; control = (m.1.1.0, (m.1.1.1.0, (n, tt))); frame = (m.0, (m.1.0, (m.1.1.1.1.0, (n, tt)))) })
@@ -236,7 +257,7 @@ right_side_follows {k} text h o p q t i n m =
     (equal_left z (place_in text o.left_at) (place_in text o.right_at) (typed_at k.stored p) (tree_at k.stored t) (tree_at k.stored i)) (λ (u : TypedTree). Ok (Typed u)))
 
 pub left_side_follows : {k : Known} (text : Sources) (h : Here) (o : Sides) (p : here.Typed) (t u c : ℕ) → AreKnownNumbers k (equal_numbers (equal.LeftSide p t u))
-    → Follows k k text h (equal_after (site_in k text h) k.stored text (equal.LeftSide p t u) o (Term (tree_at k.stored c))) (coerces p o.left_at o.right_at u (frame.Equal (equal.Last t) o))
+    → Follows k k text h (equal_answer (site_in k text h) k.stored text (equal.LeftSide p t u) o (Term (tree_at k.stored c))) (coerces p o.left_at o.right_at u (frame.Equal (equal.Last t) o))
 left_side_follows {k} text h o p t u c m =
     let z = site_in k text h in
     follows_at_once text h _ _ (record { entrance = tt; control = (m.0, (m.1.0, (m.1.1.1.0, tt))); frame = (m.1.1.0, tt) })
@@ -244,6 +265,6 @@ left_side_follows {k} text h o p t u c m =
     (equal_last (tree_at k.stored t)) (λ (u : TypedTree). Ok (Typed u)))
 
 pub equal_last_follows : {k : Known} (text : Sources) (h : Here) (o : Sides) (t c : ℕ) → IsHere k h → AreKnownNumbers k (equal_numbers (equal.Last t))
-    → Follows k k text h (equal_after (site_in k text h) k.stored text (equal.Last t) o (Term (tree_at k.stored c))) (given (value.Typed (record { tree = t; ty = h.truth })) frame.Same)
+    → Follows k k text h (equal_answer (site_in k text h) k.stored text (equal.Last t) o (Term (tree_at k.stored c))) (given (value.Typed (record { tree = t; ty = h.truth })) frame.Same)
 equal_last_follows {k} text h o t c i m =
     follows_at_once text h _ _ (record { entrance = tt; control = (m.0, (i.truth, tt)); frame = tt }) (ap (λ (u : Tree). Ok (Typed (record { tree = tree_at k.stored t; ty = u }))) (sym i.is_truth))

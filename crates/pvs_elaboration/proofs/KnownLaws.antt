@@ -24,7 +24,7 @@ use Rattle.pvs_elaboration.specs.declared.fault.ElabFault.{ElabFault}
 use Rattle.pvs_elaboration.specs.declared.fault.ElabFault.TheVariants as elab_fault
 use Rattle.pvs_elaboration.specs.declared.here.Local.{Local}
 use Rattle.pvs_elaboration.specs.declared.here.Here.{Here}
-use Rattle.pvs_elaboration.specs.Known.{Sources, word_at, Known, Grows, IsHere, IsUnder, IsBelow, IsTypeOf, IsTermOf, AreLocals, AreKnownNumbers, local_at, locals_at, site_in, under, below, Failed}
+use Rattle.pvs_elaboration.specs.Known.{Sources, word_at, Known, Grows, IsHere, IsUnder, IsBelow, IsTypeOf, IsTermOf, AreLocals, AreKnownNumbers, local_at, locals_at, site_in, hypothesis_site, variable_site, Failed}
 
 abbrev made_if : Bool → Pos → Tree → Answer Tree
 made_if b at t = if b then Ok t else Err (record { pos = at; code = TooLarge })
@@ -95,12 +95,12 @@ here_stays {a} {b} {h} g i = record {
 }
 
 -- the site under a hypothesis
-pub under_site : (k : Known) (x : Sources) {h : Here} {p : ℕ} {i : Here} → IsUnder h p i → site_in k x i ≡ under (tree_at k.stored p) (site_in k x h)
+pub hypothesis_site_is : (k : Known) (x : Sources) {h : Here} {p : ℕ} {i : Here} → IsUnder h p i → site_in k x i ≡ hypothesis_site (tree_at k.stored p) (site_in k x h)
 unfolding site_in
-under_site k x {h} {p} {i} a = rw (a.locals, a.context, a.depth) refl
+hypothesis_site_is k x {h} {p} {i} a = rw (a.locals, a.context, a.depth) refl
 
-pub under_stays : {k : Known} {h : Here} {p : ℕ} {i : Here} → IsHere k h → IsTermOf k p → IsUnder h p i → IsHere k i
-under_stays {k} {h} {p} {i} x n a = record {
+pub hypothesis_site_stays : {k : Known} {h : Here} {p : ℕ} {i : Here} → IsHere k h → IsTermOf k p → IsUnder h p i → IsHere k i
+hypothesis_site_stays {k} {h} {p} {i} x n a = record {
   locals = rw (a.locals, a.depth) x.locals;
   context = subst (IsKnownContext k.stored k.declares) (sym a.context) (n, x.context);
   ordered = x.ordered;
@@ -131,9 +131,9 @@ lifted_locals_at k x d [] h = refl
 lifted_locals_at k x d (l ∷ ls) h =
     ap₂ (λ (t : Tree) (ms : List definition.Local). record { name = word_at x l.name; term = t } ∷ ms) (lifted_once (tree_at k.stored l.term) d l.at h.0.1) (lifted_locals_at k x d ls h.1)
 
-locals_below : (k : Known) (d : ℕ) (ls : List Local) → AreLocals k d ls → AreLocals k (suc d) ls
-locals_below k d [] h = tt
-locals_below k d (l ∷ ls) h = ((h.0.0, omega (arith, h.0.1)), locals_below k d ls h.1)
+variable_locals : (k : Known) (d : ℕ) (ls : List Local) → AreLocals k d ls → AreLocals k (suc d) ls
+variable_locals k d [] h = tt
+variable_locals k d (l ∷ ls) h = ((h.0.0, omega (arith, h.0.1)), variable_locals k d ls h.1)
 
 named_at : (k : Known) (t : Sources) (d : ℕ) (x v : ℕ) (ls : List Local) → tree_at k.stored v ≡ Var 0 → AreLocals k d ls
     → locals_at k.stored t (suc d) (record { name = x; term = v; at = suc d } ∷ ls) ≡ record { name = word_at t x; term = Var 0 } ∷ lifted_locals (locals_at k.stored t d ls)
@@ -141,15 +141,15 @@ named_at k t d x v ls e h =
     let zero_more : suc d - suc d ≡ 0 = omega arith in
     rw (e, zero_more) (ap (λ (ns : List definition.Local). record { name = word_at t x; term = Var 0 } ∷ ns) (lifted_locals_at k t d ls h))
 
-pub below_site : (k : Known) (t : Sources) {h : Here} {x a : ℕ} {i : Here} → IsHere k h → IsBelow h x a i → site_in k t i ≡ below (word_at t x) (tree_at k.stored a) (site_in k t h)
+pub variable_site_is : (k : Known) (t : Sources) {h : Here} {x a : ℕ} {i : Here} → IsHere k h → IsBelow h x a i → site_in k t i ≡ variable_site (word_at t x) (tree_at k.stored a) (site_in k t h)
 unfolding site_in
-below_site k t {h} {x} {a} {i} n b = rw (b.context, b.depth, b.locals, named_at k t h.depth x h.variable h.locals n.is_variable n.locals) refl
+variable_site_is k t {h} {x} {a} {i} n b = rw (b.context, b.depth, b.locals, named_at k t h.depth x h.variable h.locals n.is_variable n.locals) refl
 
 named_stay : (k : Known) (d x v : ℕ) (ls : List Local) → IsTermOf k v → AreLocals k d ls → AreLocals k (suc d) (record { name = x; term = v; at = suc d } ∷ ls)
-named_stay k d x v ls n h = ((n, omega arith), locals_below k d ls h)
+named_stay k d x v ls n h = ((n, omega arith), variable_locals k d ls h)
 
-pub below_stays : {k : Known} {h : Here} {x a : ℕ} {i : Here} → IsHere k h → IsTypeOf k a → IsBelow h x a i → IsHere k i
-below_stays {k} {h} {x} {a} {i} n t b = record {
+pub variable_site_stays : {k : Known} {h : Here} {x a : ℕ} {i : Here} → IsHere k h → IsTypeOf k a → IsBelow h x a i → IsHere k i
+variable_site_stays {k} {h} {x} {a} {i} n t b = record {
   locals = rw (b.depth, b.locals) (named_stay k h.depth x h.variable h.locals n.variable n.locals);
   context = subst (IsKnownContext k.stored k.declares) (sym b.context) (t, n.context);
   ordered = n.ordered;

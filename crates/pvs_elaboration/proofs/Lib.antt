@@ -1,5 +1,7 @@
 pub mod KnownLaws
+pub mod FormLaws
 pub mod MachineLaws
+pub mod ListingLaws
 pub mod StepLaws
 pub mod ChoiceLaws
 pub mod JoinLaws
@@ -8,3 +10,7 @@ pub mod NameLaws
 pub mod ApplyLaws
 pub mod BinderLaws
 pub mod EqualLaws
+pub mod LetLaws
+pub mod SubtypeLaws
+pub mod TupleLaws
+pub mod PartLaws

@@ -41,13 +41,14 @@ use Rattle.pvs_elaboration.specs.declared.frame.Next.{Next}
 use Rattle.pvs_elaboration.specs.declared.frame.Machine.{Machine}
 use Rattle.pvs_elaboration.specs.Known.{Sources, Known, Grows, Site, site_in, IsHere, AreKnownNumbers, IsFault, Failed}
 use Rattle.pvs_elaboration.specs.Meanings.{Meaning, Typed, Term, Formed, meaning, value_numbers, typed_at, typed_answer, term_answer, formed_answer, on_typed, on_term, on_formed}
-use Rattle.pvs_elaboration.specs.Choice.{choice_after, choice_numbers, not_after, not_numbers}
-use Rattle.pvs_elaboration.specs.Names.{name_after, name_numbers}
-use Rattle.pvs_elaboration.specs.Apply.{apply_after, apply_numbers}
-use Rattle.pvs_elaboration.specs.Binder.{binder_after, binder_numbers}
-use Rattle.pvs_elaboration.specs.Equal.{equal_after, equal_numbers}
-use Rattle.pvs_elaboration.specs.Machine.{after, frame_numbers, control_answer, entered, entrance_numbers, next_answer, rest, machine_answer, AreKnownEntries, IsKnownNext, IsMachine, IsEntered, IsAdded, IsKnownEntry, Follows, Goes, Finds}
-use Rattle.pvs_elaboration.proofs.KnownLaws.{grows_none, grows_trans, tree_stays, site_kept, here_stays, numbers_stay, under_site, under_stays, below_site, below_stays}
+use Rattle.pvs_elaboration.specs.Choice.{choice_answer, choice_numbers, not_answer, not_numbers}
+use Rattle.pvs_elaboration.specs.Names.{name_answer, name_numbers}
+use Rattle.pvs_elaboration.specs.Apply.{apply_answer, apply_numbers}
+use Rattle.pvs_elaboration.specs.Binder.{binder_answer, binder_numbers}
+use Rattle.pvs_elaboration.specs.Equal.{equal_answer, equal_numbers}
+use Rattle.pvs_elaboration.specs.Machine.{frame_answer, frame_numbers, control_answer, entrance_site, entrance_numbers, next_answer, entries_answer, machine_answer, AreKnownEntries, IsKnownNext, IsMachine, IsEntered, IsAdded, IsKnownEntry, Follows, Goes, Finds}
+use Rattle.pvs_elaboration.proofs.KnownLaws.{grows_none, grows_trans, tree_stays, site_kept, here_stays, numbers_stay, hypothesis_site_is, hypothesis_site_stays, variable_site_is, variable_site_stays}
+use Rattle.pvs_elaboration.proofs.FormLaws.{let_stays, subtype_stays, predicate_stays, tuple_stays, product_stays, part_stays}
 
 -- One step of the definition, and then another: the value of the first goes to a frame.
 
@@ -92,7 +93,7 @@ meaning_stays (value.Term i) g n = ap Term (tree_stays g n.0)
 meaning_stays (value.Formed i) g n = ap Formed (tree_stays g n.0)
 meaning_stays value.Done g n = refl
 
-choice_stays : {a b : Known} (z : Site) (text : Sources) (f : ChoiceRow) (br : Branches) → Grows a b → AreKnownNumbers a (choice_numbers f) → choice_after z b.stored text f br ≡ choice_after z a.stored text f br
+choice_stays : {a b : Known} (z : Site) (text : Sources) (f : ChoiceRow) (br : Branches) → Grows a b → AreKnownNumbers a (choice_numbers f) → choice_answer z b.stored text f br ≡ choice_answer z a.stored text f br
 choice_stays z text First br g n = refl
 choice_stays z text (Negation p) br g n = rw (tree_stays g n.0) refl
 choice_stays z text (Second p t) br g n = rw (tree_stays g n.0, tree_stays g n.1.0, tree_stays g n.1.1.0) refl
@@ -108,25 +109,25 @@ choice_stays z text (CheckNegation u p) br g n = rw (tree_stays g n.0, tree_stay
 choice_stays z text (CheckSecond u p t) br g n = rw (tree_stays g n.0, tree_stays g n.1.0, tree_stays g n.1.1.0) refl
 choice_stays z text (CheckLast p t) br g n = rw (tree_stays g n.0, tree_stays g n.1.0) refl
 
-not_stays : {a b : Known} (z : Site) (text : Sources) (f : NotRow) (pos at : ℕ) → Grows a b → AreKnownNumbers a (not_numbers f) → not_after z b.stored text f pos at ≡ not_after z a.stored text f pos at
+not_stays : {a b : Known} (z : Site) (text : Sources) (f : NotRow) (pos at : ℕ) → Grows a b → AreKnownNumbers a (not_numbers f) → not_answer z b.stored text f pos at ≡ not_answer z a.stored text f pos at
 not_stays z text not_form.Tree pos at g n = refl
 not_stays z text (not_form.False u) pos at g n = rw (tree_stays g n.0) refl
 not_stays z text (not_form.Negation u p) pos at g n = rw (tree_stays g n.0, tree_stays g n.1.0) refl
 not_stays z text (not_form.True u) pos at g n = rw (tree_stays g n.0) refl
 not_stays z text (not_form.Last m) pos at g n = rw (tree_stays g n.0) refl
 
-name_stays : {a b : Known} (z : Site) (text : Sources) (f : NameRow) (at : ℕ) → Grows a b → AreKnownNumbers a (name_numbers f) → name_after z b.stored text f at ≡ name_after z a.stored text f at
+name_stays : {a b : Known} (z : Site) (text : Sources) (f : NameRow) (at : ℕ) → Grows a b → AreKnownNumbers a (name_numbers f) → name_answer z b.stored text f at ≡ name_answer z a.stored text f at
 name_stays z text name.Infer at g n = refl
 name_stays z text (name.Check u) at g n = rw (tree_stays g n.0) refl
 name_stays z text name.Formed at g n = refl
 
-apply_stays : {a b : Known} (z : Site) (text : Sources) (f : ApplyRow) (o : Operands) → Grows a b → AreKnownNumbers a (apply_numbers f) → apply_after z b.stored text f o ≡ apply_after z a.stored text f o
+apply_stays : {a b : Known} (z : Site) (text : Sources) (f : ApplyRow) (o : Operands) → Grows a b → AreKnownNumbers a (apply_numbers f) → apply_answer z b.stored text f o ≡ apply_answer z a.stored text f o
 apply_stays z text apply.Function o g n = refl
 apply_stays z text (apply.Head c) o g n = rw (tree_stays g n.0) refl
 apply_stays z text (apply.Argument c d) o g n = rw (tree_stays g n.0, tree_stays g n.1.0) refl
 apply_stays z text (apply.Tree d x) o g n = rw (tree_stays g n.0, tree_stays g n.1.0) refl
 
-binder_stays : {a b : Known} (z : Site) (text : Sources) (f : BinderRow) (o : Binding) → Grows a b → AreKnownNumbers a (binder_numbers f) → binder_after z b.stored text f o ≡ binder_after z a.stored text f o
+binder_stays : {a b : Known} (z : Site) (text : Sources) (f : BinderRow) (o : Binding) → Grows a b → AreKnownNumbers a (binder_numbers f) → binder_answer z b.stored text f o ≡ binder_answer z a.stored text f o
 binder_stays z text binder.All o g n = refl
 binder_stays z text (binder.AllBody c) o g n = rw (tree_stays g n.0) refl
 binder_stays z text (binder.AllPredicate c) o g n = rw (tree_stays g n.0) refl
@@ -139,7 +140,7 @@ binder_stays z text binder.PredicateBody o g n = refl
 binder_stays z text binder.Function o g n = refl
 binder_stays z text (binder.Range c) o g n = rw (tree_stays g n.0) refl
 
-equal_stays : {a b : Known} (z : Site) (text : Sources) (f : EqualRow) (o : Sides) → Grows a b → AreKnownNumbers a (equal_numbers f) → equal_after z b.stored text f o ≡ equal_after z a.stored text f o
+equal_stays : {a b : Known} (z : Site) (text : Sources) (f : EqualRow) (o : Sides) → Grows a b → AreKnownNumbers a (equal_numbers f) → equal_answer z b.stored text f o ≡ equal_answer z a.stored text f o
 equal_stays z text equal.Iff o g n = refl
 equal_stays z text (equal.IffHead p) o g n = rw (tree_stays g n.0, tree_stays g n.1.0) refl
 equal_stays z text equal.Right o g n = refl
@@ -150,36 +151,42 @@ equal_stays z text (equal.RightSide p q t) o g n = rw (tree_stays g n.0, tree_st
 equal_stays z text (equal.LeftSide p t u) o g n = rw (tree_stays g n.0, tree_stays g n.1.0, tree_stays g n.1.1.0, tree_stays g n.1.1.1.0) refl
 equal_stays z text (equal.Last t) o g n = rw (tree_stays g n.0) refl
 
-frame_stays : {a b : Known} (z : Site) (text : Sources) (f : Frame) → Grows a b → AreKnownNumbers a (frame_numbers f) → after z b.stored text f ≡ after z a.stored text f
-frame_stays z text frame.Same g n = refl
-frame_stays z text (frame.Coerce large at u) g n = rw (tree_stays g n.0) refl
-frame_stays z text (frame.WithType u) g n = rw (tree_stays g n.0) refl
-frame_stays z text (frame.WithTerm t) g n = rw (tree_stays g n.0) refl
-frame_stays z text (frame.Choice f br) g n = choice_stays z text f br g n
-frame_stays z text (frame.Not f pos at) g n = not_stays z text f pos at g n
-frame_stays z text (frame.Name f at) g n = name_stays z text f at g n
-frame_stays z text (frame.Apply f o) g n = apply_stays z text f o g n
-frame_stays z text (frame.Binder f o) g n = binder_stays z text f o g n
-frame_stays z text (frame.Equal f o) g n = equal_stays z text f o g n
+frame_stays_at : {a b : Known} (z : Site) (text : Sources) (f : Frame) → Grows a b → AreKnownNumbers a (frame_numbers f) → frame_answer z b.stored text f ≡ frame_answer z a.stored text f
+frame_stays_at z text frame.Same g n = refl
+frame_stays_at z text (frame.Coerce large at u) g n = rw (tree_stays g n.0) refl
+frame_stays_at z text (frame.WithType u) g n = rw (tree_stays g n.0) refl
+frame_stays_at z text (frame.WithTerm t) g n = rw (tree_stays g n.0) refl
+frame_stays_at z text (frame.Choice f br) g n = choice_stays z text f br g n
+frame_stays_at z text (frame.Not f pos at) g n = not_stays z text f pos at g n
+frame_stays_at z text (frame.Name f at) g n = name_stays z text f at g n
+frame_stays_at z text (frame.Apply f o) g n = apply_stays z text f o g n
+frame_stays_at z text (frame.Binder f o) g n = binder_stays z text f o g n
+frame_stays_at z text (frame.Equal f o) g n = equal_stays z text f o g n
+frame_stays_at z text (frame.Let f o) g n = let_stays z text f o g n
+frame_stays_at z text (frame.Subtype f o) g n = subtype_stays z text f o g n
+frame_stays_at z text (frame.Predicate f start at) g n = predicate_stays z text f start at g n
+frame_stays_at z text (frame.Tuple f o) g n = tuple_stays z text f o g n
+frame_stays_at z text (frame.Product f k o) g n = product_stays z text f k o g n
+frame_stays_at z text (frame.Part f o) g n = part_stays z text f o g n
 
-pub after_stays : {a b : Known} (text : Sources) (h : Here) (f : Frame) → Grows a b → IsHere a h → AreKnownNumbers a (frame_numbers f)
-    → after (site_in b text h) b.stored text f ≡ after (site_in a text h) a.stored text f
-after_stays {a} {b} text h f g i n = frame_stays (site_in b text h) text f g n ∙ ap (λ z. after z a.stored text f) (site_kept text h g i)
+pub frame_stays : {a b : Known} (text : Sources) (h : Here) (f : Frame) → Grows a b → IsHere a h → AreKnownNumbers a (frame_numbers f)
+    → frame_answer (site_in b text h) b.stored text f ≡ frame_answer (site_in a text h) a.stored text f
+frame_stays {a} {b} text h f g i n = frame_stays_at (site_in b text h) text f g n ∙ ap (λ z. frame_answer z a.stored text f) (site_kept text h g i)
 
 pub then_alike : {A B : Type 0} (r : Answer A) (f g : A → Answer B) → ((x : A) → f x ≡ g x) → (r >>= f) ≡ (r >>= g)
 then_alike (Ok x) f g e = e x
 then_alike (Err x) f g e = refl
 
-pub rest_stays : {a b : Known} (text : Sources) (h : Here) (es : List Entry) (m : Meaning) → Grows a b → IsHere a h → AreKnownEntries a es → rest b text h es m ≡ rest a text h es m
-rest_stays text h [] m g i n = refl
-rest_stays {a} {b} text h (entry.Use f ∷ es) m g i n =
-    ap (λ (q : Meaning → Answer Meaning). q m >>= rest b text h es) (after_stays text h f g i n.0) ∙ then_alike (after (site_in a text h) a.stored text f m) (rest b text h es) (rest a text h es) (λ v. rest_stays text h es v g i n.1)
-rest_stays text h (entry.Leave o ∷ es) m g i n = rest_stays text o es m g n.0 n.1
+pub entries_stay : {a b : Known} (text : Sources) (h : Here) (es : List Entry) (m : Meaning) → Grows a b → IsHere a h → AreKnownEntries a es → entries_answer b text h es m ≡ entries_answer a text h es m
+entries_stay text h [] m g i n = refl
+entries_stay {a} {b} text h (entry.Use f ∷ es) m g i n =
+    ap (λ (q : Meaning → Answer Meaning). q m >>= entries_answer b text h es) (frame_stays text h f g i n.0) ∙ then_alike (frame_answer (site_in a text h) a.stored text f m) (entries_answer b text h es) (entries_answer a text h es) (λ v. entries_stay text h es v g i n.1)
+entries_stay text h (entry.Leave o ∷ es) m g i n = entries_stay text o es m g n.0 n.1
 
-pub entries_stay : {a b : Known} (es : List Entry) → Grows a b → AreKnownEntries a es → AreKnownEntries b es
-entries_stay [] g n = tt
-entries_stay (entry.Use f ∷ es) g n = (numbers_stay (frame_numbers f) g n.0, entries_stay es g n.1)
-entries_stay (entry.Leave o ∷ es) g n = (here_stays g n.0, entries_stay es g n.1)
+pub known_entries_stay : {a b : Known} (es : List Entry) → Grows a b → AreKnownEntries a es → AreKnownEntries b es
+known_entries_stay [] g n = tt
+known_entries_stay (entry.Use f ∷ es) g n = (numbers_stay (frame_numbers f) g n.0, known_entries_stay es g n.1)
+known_entries_stay (entry.Leave o ∷ es) g n = (here_stays g n.0, known_entries_stay es g n.1)
 
 -- What follows a step, added to a machine.
 
@@ -188,8 +195,8 @@ reverse_end xs x = reverse-append xs (x ∷ [])
 
 pub entered_here : {k : Known} (h i : Here) (es fs : List Entry) (e : Entrance) → IsHere k h → AreKnownNumbers k (entrance_numbers e) → IsEntered h es e i fs → IsHere k i
 entered_here h i es fs entrance.Here n m a = rw a.0 n
-entered_here h i es fs (entrance.Hypothesis p) n m a = under_stays n m.0 a.0
-entered_here h i es fs (entrance.Variable x t) n m a = below_stays n m.0 a.0
+entered_here h i es fs (entrance.Hypothesis p) n m a = hypothesis_site_stays n m.0 a.0
+entered_here h i es fs (entrance.Variable x t) n m a = variable_site_stays n m.0 a.0
 
 pub entered_entries : {k : Known} (h i : Here) (es fs : List Entry) (e : Entrance) → IsHere k h → IsEntered h es e i fs → AreKnownEntries k (reverse es) → AreKnownEntries k (reverse fs)
 entered_entries h i es fs entrance.Here n a m = rw a.1 m
@@ -198,18 +205,18 @@ entered_entries h i es fs (entrance.Variable x t) n a m = rw (a.1, reverse_end e
 
 -- what is answered there, and then here
 pub entered_answer : (k : Known) (text : Sources) (h i : Here) (es fs : List Entry) (e : Entrance) (f : Site → Answer Meaning) → IsHere k h → IsEntered h es e i fs
-    → (f (site_in k text i) >>= rest k text i (reverse fs)) ≡ (f (entered (site_in k text h) k.stored text e) >>= rest k text h (reverse es))
+    → (f (site_in k text i) >>= entries_answer k text i (reverse fs)) ≡ (f (entrance_site (site_in k text h) k.stored text e) >>= entries_answer k text h (reverse es))
 entered_answer k text h i es fs entrance.Here f n a = rw (a.0, a.1) refl
-entered_answer k text h i es fs (entrance.Hypothesis p) f n a = rw (a.1, reverse_end es (entry.Leave h), under_site k text a.0) refl
-entered_answer k text h i es fs (entrance.Variable x t) f n a = rw (a.1, reverse_end es (entry.Leave h), below_site k text n a.0) refl
+entered_answer k text h i es fs (entrance.Hypothesis p) f n a = rw (a.1, reverse_end es (entry.Leave h), hypothesis_site_is k text a.0) refl
+entered_answer k text h i es fs (entrance.Variable x t) f n a = rw (a.1, reverse_end es (entry.Leave h), variable_site_is k text n a.0) refl
 
 pub added_answer : (k : Known) (text : Sources) (m : Machine) (n : Next) (o : Machine) → IsMachine k m → IsAdded m n o
-    → machine_answer k text o n.control ≡ (next_answer (site_in k text m.here) k.stored text n >>= rest k text m.here (reverse m.entries.items))
+    → machine_answer k text o n.control ≡ (next_answer (site_in k text m.here) k.stored text n >>= entries_answer k text m.here (reverse m.entries.items))
 unfolding machine_answer
 added_answer k text m n o i a =
     entered_answer k text m.here o.here (m.entries.items ++ entry.Use n.frame ∷ []) o.entries.items n.entrance (λ z. control_answer z k.stored text n.control) i.here a
-    ∙ ap (λ es. control_answer (entered (site_in k text m.here) k.stored text n.entrance) k.stored text n.control >>= rest k text m.here es) (reverse_end m.entries.items (entry.Use n.frame))
-    ∙ sym (then_same (control_answer (entered (site_in k text m.here) k.stored text n.entrance) k.stored text n.control) (after (site_in k text m.here) k.stored text n.frame) (rest k text m.here (reverse m.entries.items)))
+    ∙ ap (λ es. control_answer (entrance_site (site_in k text m.here) k.stored text n.entrance) k.stored text n.control >>= entries_answer k text m.here es) (reverse_end m.entries.items (entry.Use n.frame))
+    ∙ sym (then_same (control_answer (entrance_site (site_in k text m.here) k.stored text n.entrance) k.stored text n.control) (frame_answer (site_in k text m.here) k.stored text n.frame) (entries_answer k text m.here (reverse m.entries.items)))
 
 pub added_machine : {k : Known} {m : Machine} {n : Next} {o : Machine} → IsMachine k m → IsKnownNext k n → IsAdded m n o → IsMachine k o
 added_machine {k} {m} {n} {o} i x a = record {
@@ -219,16 +226,16 @@ added_machine {k} {m} {n} {o} i x a = record {
 
 -- the same machine where the store has grown
 pub machine_stays : {a b : Known} {m : Machine} → Grows a b → IsMachine a m → IsMachine b m
-machine_stays {m = m} g i = record { here = here_stays g i.here; entries = entries_stay (reverse m.entries.items) g i.entries }
+machine_stays {m = m} g i = record { here = here_stays g i.here; entries = known_entries_stay (reverse m.entries.items) g i.entries }
 
 -- a step at the place of the machine, and what is left
 pub turn_goes : {a b : Known} (text : Sources) (m : Machine) (r : Answer Meaning) (n : Next) (o : Machine) → IsMachine a m → Follows a b text m.here r n → IsAdded m n o
-    → Goes a b text (r >>= rest a text m.here (reverse m.entries.items)) o n.control
+    → Goes a b text (r >>= entries_answer a text m.here (reverse m.entries.items)) o n.control
 turn_goes {a} {b} text m r n o i f d = record {
   kept = f.kept;
   machine = added_machine (machine_stays f.kept i) f.known d;
   control = f.known.control;
-  is = ap (λ q. q >>= rest a text m.here (reverse m.entries.items)) f.is ∙ then_alike (next_answer (site_in b text m.here) b.stored text n) (rest a text m.here (reverse m.entries.items)) (rest b text m.here (reverse m.entries.items)) (λ v. sym (rest_stays text m.here (reverse m.entries.items) v f.kept i.here i.entries)) ∙ sym (added_answer b text m n o (machine_stays f.kept i) d);
+  is = ap (λ q. q >>= entries_answer a text m.here (reverse m.entries.items)) f.is ∙ then_alike (next_answer (site_in b text m.here) b.stored text n) (entries_answer a text m.here (reverse m.entries.items)) (entries_answer b text m.here (reverse m.entries.items)) (λ v. sym (entries_stay text m.here (reverse m.entries.items) v f.kept i.here i.entries)) ∙ sym (added_answer b text m n o (machine_stays f.kept i) d);
 }
 
 -- A value that is given to the last entry.
@@ -249,15 +256,15 @@ given_outside {k} text m o n v i e h x =
       kept = grows_none k;
       machine = record { here = subst (IsHere k) (sym h) p.0; entries = p.1 };
       control = x;
-      is = ap (λ es. rest k text m.here es (meaning k.stored v)) (ap reverse e ∙ reverse_end n.entries.items (entry.Leave o)) ∙ ap (λ i. rest k text i (reverse n.entries.items) (meaning k.stored v)) (sym h);
+      is = ap (λ es. entries_answer k text m.here es (meaning k.stored v)) (ap reverse e ∙ reverse_end n.entries.items (entry.Leave o)) ∙ ap (λ i. entries_answer k text i (reverse n.entries.items) (meaning k.stored v)) (sym h);
     }
 
 pub used_answer : (k : Known) (text : Sources) (m : Machine) (f : Frame) (n : Machine) (v : Value) → m.entries.items ≡ n.entries.items ++ entry.Use f ∷ [] → n.here ≡ m.here
-    → machine_answer k text m (control.Give v) ≡ (after (site_in k text n.here) k.stored text f (meaning k.stored v) >>= rest k text n.here (reverse n.entries.items))
+    → machine_answer k text m (control.Give v) ≡ (frame_answer (site_in k text n.here) k.stored text f (meaning k.stored v) >>= entries_answer k text n.here (reverse n.entries.items))
 unfolding machine_answer
 used_answer k text m f n v e h =
-    ap (λ es. rest k text m.here es (meaning k.stored v)) (ap reverse e ∙ reverse_end n.entries.items (entry.Use f))
-    ∙ ap (λ i. after (site_in k text i) k.stored text f (meaning k.stored v) >>= rest k text i (reverse n.entries.items)) (sym h)
+    ap (λ es. entries_answer k text m.here es (meaning k.stored v)) (ap reverse e ∙ reverse_end n.entries.items (entry.Use f))
+    ∙ ap (λ i. frame_answer (site_in k text i) k.stored text f (meaning k.stored v) >>= entries_answer k text i (reverse n.entries.items)) (sym h)
 
 pub popped_machine : {k : Known} {m : Machine} (x : Entry) (n : Machine) → IsMachine k m → m.entries.items ≡ n.entries.items ++ x ∷ [] → n.here ≡ m.here → IsMachine k n
 popped_machine {k} {m} x n i e h = record { here = subst (IsHere k) (sym h) i.here; entries = (popped_entries n.entries.items x i e).1 }
@@ -270,7 +277,7 @@ pub failed_same : {a b : Known} (r q : Answer Meaning) (e : ElabFault) → q ≡
 failed_same {a} {b} r q e d f = subst (λ x. Failed a b x e) (sym d) f
 
 -- a step at a place, before what is left there
-pub asked_answer : (k : Known) (text : Sources) (m : Machine) (c : Control) → machine_answer k text m c ≡ (control_answer (site_in k text m.here) k.stored text c >>= rest k text m.here (reverse m.entries.items))
+pub asked_answer : (k : Known) (text : Sources) (m : Machine) (c : Control) → machine_answer k text m c ≡ (control_answer (site_in k text m.here) k.stored text c >>= entries_answer k text m.here (reverse m.entries.items))
 unfolding machine_answer
 asked_answer k text m c = refl
 

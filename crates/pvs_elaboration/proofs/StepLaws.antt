@@ -32,9 +32,9 @@ use Rattle.pvs_elaboration.specs.declared.frame.Next.{Next}
 use Rattle.pvs_elaboration.specs.Known as known
 use Rattle.pvs_elaboration.specs.Known.{Sources, phrase_at, place_in, Known, Grows, Accepts, site_in, IsHere, AreKnownNumbers, Failed}
 use Rattle.pvs_elaboration.specs.Meanings.{Meaning, Typed, Term, Formed, meaning, value_numbers, typed_at, term_answer, fault_of, fault_at}
-use Rattle.pvs_elaboration.specs.Machine.{after, coerced_at, frame_numbers, made_answer, made_type_answer, next_answer, IsTermNode, IsTypeNode, IsKnownNext, Follows, Steps}
+use Rattle.pvs_elaboration.specs.Machine.{frame_answer, coerced_at, frame_numbers, made_answer, made_type_answer, next_answer, IsTermNode, IsTypeNode, IsKnownNext, Follows, Steps}
 use Rattle.pvs_elaboration.proofs.KnownLaws.{failed_then, number_stays, tree_stays, grows_none, within_limits_made, numbers_stay}
-use Rattle.pvs_elaboration.proofs.MachineLaws.{after_stays, nothing_after}
+use Rattle.pvs_elaboration.proofs.MachineLaws.{frame_stays, nothing_after}
 
 -- what gives a value to a frame
 abbrev pub given : Value → Frame → Next
@@ -43,11 +43,11 @@ given v f = record { entrance = entrance.Here; control = control.Give v; frame =
 -- a call that found something goes on with it
 pub given_follows : {A : Type 0} {a b : Known} (text : Sources) (h : Here) (r : Answer A) (x : A) (w : A → Meaning) (v : Value) (f : Frame)
     → Grows a b → IsHere a h → AreKnownNumbers a (frame_numbers f) → AreKnownNumbers b (value_numbers v) → r ≡ Ok x → w x ≡ meaning b.stored v
-    → Follows a b text h (r >>= (λ y. after (site_in a text h) a.stored text f (w y))) (given v f)
+    → Follows a b text h (r >>= (λ y. frame_answer (site_in a text h) a.stored text f (w y))) (given v f)
 given_follows {A} {a} {b} text h r x w v f g i n m e d = record {
   kept = g;
   known = record { entrance = tt; control = m; frame = numbers_stay (frame_numbers f) g n };
-  is = ap (λ (q : Answer A). q >>= (λ y. after (site_in a text h) a.stored text f (w y))) e ∙ ap (after (site_in a text h) a.stored text f) d ∙ sym (ap (λ (q : Meaning → Answer Meaning). q (meaning b.stored v)) (after_stays text h f g i n));
+  is = ap (λ (q : Answer A). q >>= (λ y. frame_answer (site_in a text h) a.stored text f (w y))) e ∙ ap (frame_answer (site_in a text h) a.stored text f) d ∙ sym (ap (λ (q : Meaning → Answer Meaning). q (meaning b.stored v)) (frame_stays text h f g i n));
 }
 
 node_sort : (s : Stored) (n : Node) → IsTermNode n → sort_of (node_tree s n) ≡ OfTerm
@@ -102,6 +102,9 @@ type_made {a} {b} text h at n f {i} t x m g s =
 pub steps_same : (a b : Known) (text : Sources) (h : Here) (r q : Answer Meaning) (res : Result Next ElabFault) → r ≡ q → Steps a b text h q res → Steps a b text h r res
 steps_same a b text h r q res e t = subst (λ x. Steps a b text h x res) (sym e) t
 
+pub follows_same : {a b : Known} (text : Sources) (h : Here) (r q : Answer Meaning) (n : Next) → r ≡ q → Follows a b text h q n → Follows a b text h r n
+follows_same {a} {b} text h r q n e f = subst (λ x. Follows a b text h x n) (sym e) f
+
 -- a step without a call
 pub follows_at_once : {k : Known} (text : Sources) (h : Here) (r : Answer Meaning) (n : Next) → IsKnownNext k n → r ≡ next_answer (site_in k text h) k.stored text n → Follows k k text h r n
 follows_at_once {k} text h r n m e = record { kept = grows_none k; known = m; is = e }
@@ -134,15 +137,15 @@ pub same_follows : {k : Known} (text : Sources) (h : Here) (v : Value) → AreKn
 same_follows text h v n = follows_at_once text h _ _ (record { entrance = tt; control = n; frame = tt }) refl
 
 pub coerce_follows : {k : Known} (text : Sources) (h : Here) (large at : ℕ) (t : here.Typed) (u : ℕ) → AreKnownNumbers k (value_numbers (value.Typed t)) → AreKnownNumbers k (frame_numbers (frame.Coerce large at u))
-    → Follows k k text h (after (site_in k text h) k.stored text (frame.Coerce large at u) (Typed (typed_at k.stored t))) (record { entrance = entrance.Here; control = control.Coerce t large at u; frame = frame.Same })
+    → Follows k k text h (frame_answer (site_in k text h) k.stored text (frame.Coerce large at u) (Typed (typed_at k.stored t))) (record { entrance = entrance.Here; control = control.Coerce t large at u; frame = frame.Same })
 coerce_follows text h large at t u n m = follows_at_once text h _ _ (record { entrance = tt; control = (n.0, (n.1.0, m)); frame = tt }) (sym (nothing_after _))
 
 pub with_type_follows : {k : Known} (text : Sources) (h : Here) (t a : ℕ) → AreKnownNumbers k (value_numbers (value.Term t)) → AreKnownNumbers k (frame_numbers (frame.WithType a))
-    → Follows k k text h (after (site_in k text h) k.stored text (frame.WithType a) (Term (tree_at k.stored t))) (given (value.Typed (record { tree = t; ty = a })) frame.Same)
+    → Follows k k text h (frame_answer (site_in k text h) k.stored text (frame.WithType a) (Term (tree_at k.stored t))) (given (value.Typed (record { tree = t; ty = a })) frame.Same)
 with_type_follows text h t a n m = follows_at_once text h _ _ (record { entrance = tt; control = (n.0, m); frame = tt }) refl
 
 pub with_term_follows : {k : Known} (text : Sources) (h : Here) (t a : ℕ) → AreKnownNumbers k (value_numbers (value.Formed a)) → AreKnownNumbers k (frame_numbers (frame.WithTerm t))
-    → Follows k k text h (after (site_in k text h) k.stored text (frame.WithTerm t) (Formed (tree_at k.stored a))) (given (value.Typed (record { tree = t; ty = a })) frame.Same)
+    → Follows k k text h (frame_answer (site_in k text h) k.stored text (frame.WithTerm t) (Formed (tree_at k.stored a))) (given (value.Typed (record { tree = t; ty = a })) frame.Same)
 with_term_follows text h t a n m = follows_at_once text h _ _ (record { entrance = tt; control = (m.0, n); frame = tt }) refl
 
 -- a fault of the text
@@ -156,12 +159,12 @@ accepted_value large at e = ap (from_outcome_at large at) e.2
 -- a type that a call finds, and the code that it refuses with
 
 pub type_found : {A : Type 0} {a b : Known} (text : Sources) (h : Here) (at : Pos) (q : Result Tree Code) (x : Tree → Answer A) (y : A → Answer Meaning) (f : Frame) (i : ℕ)
-    → Grows a b → IsHere a h → AreKnownNumbers a (frame_numbers f) → known.IsTypeOf b i → q ≡ Ok (tree_at b.stored i) → ((t : Tree) → (x t >>= y) ≡ after (site_in a text h) a.stored text f (Formed t))
+    → Grows a b → IsHere a h → AreKnownNumbers a (frame_numbers f) → known.IsTypeOf b i → q ≡ Ok (tree_at b.stored i) → ((t : Tree) → (x t >>= y) ≡ frame_answer (site_in a text h) a.stored text f (Formed t))
     → Follows a b text h ((from_outcome at (from_result q) >>= x) >>= y) (given (value.Formed i) f)
 type_found {A} {a} {b} text h at q x y f i g n m t e d = record {
   kept = g;
   known = record { entrance = tt; control = (t, tt); frame = numbers_stay (frame_numbers f) g m };
-  is = ap (λ (r : Result Tree Code). (from_outcome at (from_result r) >>= x) >>= y) e ∙ d (tree_at b.stored i) ∙ sym (ap (λ (r : Meaning → Answer Meaning). r (Formed (tree_at b.stored i))) (after_stays text h f g n m));
+  is = ap (λ (r : Result Tree Code). (from_outcome at (from_result r) >>= x) >>= y) e ∙ d (tree_at b.stored i) ∙ sym (ap (λ (r : Meaning → Answer Meaning). r (Formed (tree_at b.stored i))) (frame_stays text h f g n m));
 }
 
 pub refusal_fault : {A : Type 0} (q : Result A Code) (e : TypeFault) → IsRefusal q e → IsFault (from_result q) e

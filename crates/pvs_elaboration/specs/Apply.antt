@@ -34,11 +34,11 @@ apply_head z x at c b = from_outcome at (function_of b) >>= apply_parts z x at c
 abbrev pub apply_function : Site → Elab → Pos → TypedTree → Answer TypedTree
 apply_function z x at c = from_outcome at (from_result (head z.lookups c.ty)) >>= apply_head z x at c.tree
 
-abbrev pub apply_after : Site → Stored → Sources → ApplyRow → Operands → Meaning → Answer Meaning
-apply_after z s text apply.Function o = on_typed (λ c. typed_answer (apply_function z (elab_at z text o.argument) (place_in text o.at) c))
-apply_after z s text (apply.Head c) o = on_formed (λ b. typed_answer (apply_head z (elab_at z text o.argument) (place_in text o.at) (tree_at s c) b))
-apply_after z s text (apply.Argument c d) o = on_term (λ a. typed_answer (apply_argument (place_in text o.at) (tree_at s c) (tree_at s d) a))
-apply_after z s text (apply.Tree d a) o = on_term (λ t. typed_answer (apply_tree (place_in text o.at) (tree_at s d) (tree_at s a) t))
+abbrev pub apply_answer : Site → Stored → Sources → ApplyRow → Operands → Meaning → Answer Meaning
+apply_answer z s text apply.Function o = on_typed (λ c. typed_answer (apply_function z (elab_at z text o.argument) (place_in text o.at) c))
+apply_answer z s text (apply.Head c) o = on_formed (λ b. typed_answer (apply_head z (elab_at z text o.argument) (place_in text o.at) (tree_at s c) b))
+apply_answer z s text (apply.Argument c d) o = on_term (λ a. typed_answer (apply_argument (place_in text o.at) (tree_at s c) (tree_at s d) a))
+apply_answer z s text (apply.Tree d a) o = on_term (λ t. typed_answer (apply_tree (place_in text o.at) (tree_at s d) (tree_at s a) t))
 
 abbrev pub apply_numbers : ApplyRow → List (Sort × ℕ)
 apply_numbers apply.Function = []

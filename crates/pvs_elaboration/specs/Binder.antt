@@ -48,18 +48,18 @@ function_range at c e = within_limits_at at (TFun c e)
 abbrev pub function_domain : Site → Text → Elab → Pos → Tree → Answer Tree
 function_domain z x b at c = b.formed (under_name x c z.here) >>= function_range at c
 
-abbrev pub binder_after : Site → Stored → Sources → BinderRow → Binding → Meaning → Answer Meaning
-binder_after z s text binder.All o = on_formed (λ c. typed_answer (all_type z (word_at text o.name) (elab_at z text o.body) (place_in text o.at) c))
-binder_after z s text (binder.AllBody c) o = on_term (λ q. typed_answer (all_body (place_in text o.at) (tree_at s c) q))
-binder_after z s text (binder.AllPredicate c) o = on_term (λ l. typed_answer (all_predicate (place_in text o.at) (tree_at s c) l))
-binder_after z s text (binder.AllEquation l) o = on_term (λ r. typed_answer (all_equation (place_in text o.at) (tree_at s l) r))
-binder_after z s text binder.Lambda o = on_formed (λ c. typed_answer (lambda_type z (word_at text o.name) (elab_at z text o.body) (place_in text o.at) c))
-binder_after z s text (binder.LambdaBody c) o = on_typed (λ e. typed_answer (lambda_body (place_in text o.at) (tree_at s c) e))
-binder_after z s text (binder.LambdaTree c e) o = on_term (λ t. typed_answer (lambda_tree (place_in text o.at) (tree_at s c) (tree_at s e) t))
-binder_after z s text binder.Predicate o = on_formed (λ c. done_answer (predicate_type z (word_at text o.name) (elab_at z text o.body) c))
-binder_after z s text binder.PredicateBody o = on_term (λ _. Ok Done)
-binder_after z s text binder.Function o = on_formed (λ c. formed_answer (function_domain z (word_at text o.name) (elab_at z text o.body) (place_in text o.at) c))
-binder_after z s text (binder.Range c) o = on_formed (λ e. formed_answer (function_range (place_in text o.at) (tree_at s c) e))
+abbrev pub binder_answer : Site → Stored → Sources → BinderRow → Binding → Meaning → Answer Meaning
+binder_answer z s text binder.All o = on_formed (λ c. typed_answer (all_type z (word_at text o.name) (elab_at z text o.body) (place_in text o.at) c))
+binder_answer z s text (binder.AllBody c) o = on_term (λ q. typed_answer (all_body (place_in text o.at) (tree_at s c) q))
+binder_answer z s text (binder.AllPredicate c) o = on_term (λ l. typed_answer (all_predicate (place_in text o.at) (tree_at s c) l))
+binder_answer z s text (binder.AllEquation l) o = on_term (λ r. typed_answer (all_equation (place_in text o.at) (tree_at s l) r))
+binder_answer z s text binder.Lambda o = on_formed (λ c. typed_answer (lambda_type z (word_at text o.name) (elab_at z text o.body) (place_in text o.at) c))
+binder_answer z s text (binder.LambdaBody c) o = on_typed (λ e. typed_answer (lambda_body (place_in text o.at) (tree_at s c) e))
+binder_answer z s text (binder.LambdaTree c e) o = on_term (λ t. typed_answer (lambda_tree (place_in text o.at) (tree_at s c) (tree_at s e) t))
+binder_answer z s text binder.Predicate o = on_formed (λ c. done_answer (predicate_type z (word_at text o.name) (elab_at z text o.body) c))
+binder_answer z s text binder.PredicateBody o = on_term (λ _. Ok Done)
+binder_answer z s text binder.Function o = on_formed (λ c. formed_answer (function_domain z (word_at text o.name) (elab_at z text o.body) (place_in text o.at) c))
+binder_answer z s text (binder.Range c) o = on_formed (λ e. formed_answer (function_range (place_in text o.at) (tree_at s c) e))
 
 abbrev pub binder_numbers : BinderRow → List (Sort × ℕ)
 binder_numbers binder.All = []

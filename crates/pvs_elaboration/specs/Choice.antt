@@ -1,5 +1,5 @@
 -- What is left of a choice and of NOT.
-use Rattle.std.specs.Prelude.{ℕ, Bool, if◌then◌else◌, List, [], ◌∷◌, Option, Some, None, Ok}
+use Rattle.std.specs.Prelude.{◌≡◌, ℕ, Bool, if◌then◌else◌, List, [], ◌∷◌, Option, Some, None, Result, Ok, Err}
 use Rattle.pvs_base.specs.Answers.{◌>>=◌}
 use Rattle.pvs_base.specs.declared.place.Pos.{Pos}
 use Rattle.pvs_terms.specs.Tree.{Tree, TBool, True, If}
@@ -7,19 +7,22 @@ use Rattle.pvs_terms.specs.declared.shape.Sort.{Sort}
 use Rattle.pvs_terms.specs.declared.shape.Sort.TheVariants.{OfType, OfTerm}
 use Rattle.pvs_terms.specs.Stored.{Stored, tree_at}
 use Rattle.pvs_subst.specs.Contexts.{Hypothesis}
+use Rattle.pvs_sig.specs.Lookups.{Lookups}
 use Rattle.pvs_types.specs.Outcome.{from_result}
 use Rattle.pvs_types.specs.Forms.{up, most, first_among}
 use Rattle.pvs_types.specs.Coerce.{coerce}
 use Rattle.pvs_types.specs.Typing.{negation}
+use Rattle.pvs_typing.specs.Answers.{IsOptionKnown, tree_option}
 use Rattle.pvs_elab.specs.Answer.{Answer, ◌>>◌, pure, within_limits_at, from_outcome, from_outcome_at}
 use Rattle.pvs_elab.specs.Elab.{Elab, TypedTree, under_hypothesis, negation_at, negation_as}
 use Rattle.pvs_elab.specs.Elab as definition
+use Rattle.pvs_elaboration.specs.declared.fault.ElabFault.{ElabFault}
 use Rattle.pvs_elaboration.specs.declared.choice.Branches.{Branches}
 use Rattle.pvs_elaboration.specs.declared.choice.ChoiceRow.{ChoiceRow}
 use Rattle.pvs_elaboration.specs.declared.choice.ChoiceRow.TheVariants.{First, Negation, Second, Join, Types, General, JoinFirst, JoinSecond, Made, CheckFirst, CheckNegation, CheckSecond, CheckLast}
 use Rattle.pvs_elaboration.specs.declared.choice.NotRow.{NotRow}
 use Rattle.pvs_elaboration.specs.declared.choice.NotRow.TheVariants as not_form
-use Rattle.pvs_elaboration.specs.Known.{Sources, place_in, Site}
+use Rattle.pvs_elaboration.specs.Known.{Sources, place_in, Known, Grows, Site, Failed}
 use Rattle.pvs_elaboration.specs.Meanings.{Meaning, Term, typed_at, typed_answer, term_answer, on_typed, on_term, on_formed, on_done, elab_at}
 
 -- the places of the branches, that of branches that do not join, and that of the whole
@@ -59,6 +62,20 @@ join_types z g p a n b = from_outcome g.first (from_result (up z.lookups a.ty)) 
 abbrev pub join : Site → Bool → Places → Tree → TypedTree → Tree → TypedTree → Answer TypedTree
 join z early g p a n b = if early then within_limits_at g.at (If p a.tree b.tree) >>= (λ _. join_types z g p a n b) else join_types z g p a n b
 
+-- the first of these types that is above the type of the second branch, if there is one
+abbrev pub first_shared : Lookups → Pos → List Tree → Tree → Answer (Option Tree)
+first_shared l at us b = from_outcome at (from_result (up l b)) >>= (λ vs. Ok (first_among us vs))
+
+pub record FindsShared (a b : Known) (r : Answer (Option Tree)) (o : Option ℕ) : Type 0 where
+  pub kept : Grows a b
+  pub known : IsOptionKnown b.stored b.declares o
+  pub is : r ≡ Ok (tree_option b.stored o)
+
+-- what a call tells of it
+abbrev pub TellsShared : Known → Known → Answer (Option Tree) → Result (Option ℕ) ElabFault → Type 0
+TellsShared a b r (Ok o) = FindsShared a b r o
+TellsShared a b r (Err e) = Failed a b r e
+
 -- the branches, after each step before
 abbrev pub branch_second : Site → Bool → Places → Elab → Tree → TypedTree → Tree → Answer TypedTree
 branch_second z early g y p a n = y.infer (under_hypothesis n z.here) >>= join z early g p a n
@@ -91,28 +108,28 @@ not_true z at u n = do
 abbrev pub not_tree : Site → Pos → Pos → Tree → Tree → Answer Tree
 not_tree z pos at u p = within_limits_at pos (negation p) >>= not_true z at u
 
-abbrev pub choice_after : Site → Stored → Sources → ChoiceRow → Branches → Meaning → Answer Meaning
-choice_after z s text First b =
+abbrev pub choice_answer : Site → Stored → Sources → ChoiceRow → Branches → Meaning → Answer Meaning
+choice_answer z s text First b =
     on_term (λ p. typed_answer (branch_first z b.early (places_of text b) (elab_at z text b.first) (elab_at z text b.second) p))
-choice_after z s text (Negation p) b =
+choice_answer z s text (Negation p) b =
     on_typed (λ a. typed_answer (branch_negation z b.early (places_of text b) (elab_at z text b.second) (tree_at s p) a))
-choice_after z s text (Second p a) b =
+choice_answer z s text (Second p a) b =
     on_term (λ n. typed_answer (branch_second z b.early (places_of text b) (elab_at z text b.second) (tree_at s p) (typed_at s a) n))
-choice_after z s text (Join p a n) b =
+choice_answer z s text (Join p a n) b =
     on_typed (λ c. typed_answer (join z b.early (places_of text b) (tree_at s p) (typed_at s a) (tree_at s n) c))
-choice_after z s text (Types p a n c) b = on_term (λ _. typed_answer (join_types z (places_of text b) (tree_at s p) (typed_at s a) (tree_at s n) (typed_at s c)))
-choice_after z s text (General p a n c) b = on_done (typed_answer (join_general z (places_of text b) (tree_at s p) (typed_at s a) (tree_at s n) (typed_at s c)))
-choice_after z s text (JoinFirst p a n c) b = on_formed (λ u. typed_answer (join_first z (places_of text b) (tree_at s p) (typed_at s a) (tree_at s n) (typed_at s c) u))
-choice_after z s text (JoinSecond p a n c u) b =
+choice_answer z s text (Types p a n c) b = on_term (λ _. typed_answer (join_types z (places_of text b) (tree_at s p) (typed_at s a) (tree_at s n) (typed_at s c)))
+choice_answer z s text (General p a n c) b = on_done (typed_answer (join_general z (places_of text b) (tree_at s p) (typed_at s a) (tree_at s n) (typed_at s c)))
+choice_answer z s text (JoinFirst p a n c) b = on_formed (λ u. typed_answer (join_first z (places_of text b) (tree_at s p) (typed_at s a) (tree_at s n) (typed_at s c) u))
+choice_answer z s text (JoinSecond p a n c u) b =
     on_term (λ _. typed_answer (join_second z (places_of text b) (tree_at s p) (typed_at s a) (tree_at s n) (typed_at s c) (tree_at s u)))
-choice_after z s text (Made p a c u) b = on_term (λ _. typed_answer (join_made (places_of text b) (tree_at s p) (typed_at s a) (typed_at s c) (tree_at s u)))
-choice_after z s text (CheckFirst u) b =
+choice_answer z s text (Made p a c u) b = on_term (λ _. typed_answer (join_made (places_of text b) (tree_at s p) (typed_at s a) (typed_at s c) (tree_at s u)))
+choice_answer z s text (CheckFirst u) b =
     on_term (λ p. term_answer (check_first (elab_at z text b.first) (elab_at z text b.second) (place_in text b.at) z.here (tree_at s u) p))
-choice_after z s text (CheckNegation u p) b =
+choice_answer z s text (CheckNegation u p) b =
     on_term (λ a. term_answer (check_negation (elab_at z text b.second) (place_in text b.at) z.here (tree_at s u) (tree_at s p) a))
-choice_after z s text (CheckSecond u p a) b =
+choice_answer z s text (CheckSecond u p a) b =
     on_term (λ n. term_answer (check_second (elab_at z text b.second) (place_in text b.at) z.here (tree_at s u) (tree_at s p) (tree_at s a) n))
-choice_after z s text (CheckLast p a) b = on_term (λ c. term_answer (check_last (place_in text b.at) (tree_at s p) (tree_at s a) c))
+choice_answer z s text (CheckLast p a) b = on_term (λ c. term_answer (check_last (place_in text b.at) (tree_at s p) (tree_at s a) c))
 
 abbrev pub choice_numbers : ChoiceRow → List (Sort × ℕ)
 choice_numbers First = []
@@ -129,12 +146,12 @@ choice_numbers (CheckNegation u p) = (OfType, u) ∷ (OfTerm, p) ∷ []
 choice_numbers (CheckSecond u p a) = (OfType, u) ∷ (OfTerm, p) ∷ (OfTerm, a) ∷ []
 choice_numbers (CheckLast p a) = (OfTerm, p) ∷ (OfTerm, a) ∷ []
 
-abbrev pub not_after : Site → Stored → Sources → NotRow → ℕ → ℕ → Meaning → Answer Meaning
-not_after z s text not_form.Tree pos at = on_term (λ p. typed_answer (negation_at (place_in text pos) p))
-not_after z s text (not_form.False u) pos at = on_term (λ p. term_answer (negation_as z.lookups z.here (place_in text pos) (place_in text at) (tree_at s u) p))
-not_after z s text (not_form.Negation u p) pos at = on_term (λ f. term_answer (not_tree z (place_in text pos) (place_in text at) (tree_at s u) (tree_at s p)))
-not_after z s text (not_form.True u) pos at = on_term (λ n. term_answer (not_true z (place_in text at) (tree_at s u) n))
-not_after z s text (not_form.Last n) pos at = on_term (λ t. Ok (Term (tree_at s n)))
+abbrev pub not_answer : Site → Stored → Sources → NotRow → ℕ → ℕ → Meaning → Answer Meaning
+not_answer z s text not_form.Tree pos at = on_term (λ p. typed_answer (negation_at (place_in text pos) p))
+not_answer z s text (not_form.False u) pos at = on_term (λ p. term_answer (negation_as z.lookups z.here (place_in text pos) (place_in text at) (tree_at s u) p))
+not_answer z s text (not_form.Negation u p) pos at = on_term (λ f. term_answer (not_tree z (place_in text pos) (place_in text at) (tree_at s u) (tree_at s p)))
+not_answer z s text (not_form.True u) pos at = on_term (λ n. term_answer (not_true z (place_in text at) (tree_at s u) n))
+not_answer z s text (not_form.Last n) pos at = on_term (λ t. Ok (Term (tree_at s n)))
 
 abbrev pub not_numbers : NotRow → List (Sort × ℕ)
 not_numbers not_form.Tree = []

@@ -51,16 +51,16 @@ iff_head z x y left right a d = from_outcome left (truth_type d) >>= (λ _. equa
 abbrev pub iff_first : Site → Elab → Elab → Pos → Pos → TypedTree → Answer TypedTree
 iff_first z x y left right a = from_outcome left (from_result (head z.lookups a.ty)) >>= iff_head z x y left right a
 
-abbrev pub equal_after : Site → Stored → Sources → EqualRow → Sides → Meaning → Answer Meaning
-equal_after z s text equal.Iff o = on_typed (λ a. typed_answer (iff_first z (elab_at z text o.left) (elab_at z text o.right) (place_in text o.left_at) (place_in text o.right_at) a))
-equal_after z s text (equal.IffHead a) o = on_formed (λ d. typed_answer (iff_head z (elab_at z text o.left) (elab_at z text o.right) (place_in text o.left_at) (place_in text o.right_at) (typed_at s a) d))
-equal_after z s text equal.Right o = on_typed (λ a. typed_answer (equal_first z (elab_at z text o.left) (elab_at z text o.right) (place_in text o.left_at) (place_in text o.right_at) a))
-equal_after z s text (equal.Equation a) o = on_typed (λ b. typed_answer (equal_tree z (elab_at z text o.left) (place_in text o.left_at) (place_in text o.right_at) (typed_at s a) b))
-equal_after z s text (equal.Typing a b) o = on_term (λ t. typed_answer (equal_typing z (elab_at z text o.left) (place_in text o.left_at) (place_in text o.right_at) (typed_at s a) (typed_at s b) t))
-equal_after z s text (equal.Refused c) o = on_done (fault (place_in text o.left_at) c)
-equal_after z s text (equal.RightSide a b t) o = on_formed (λ u. typed_answer (equal_right z (place_in text o.left_at) (place_in text o.right_at) (typed_at s a) (typed_at s b) (tree_at s t) u))
-equal_after z s text (equal.LeftSide a t u) o = on_term (λ _. typed_answer (equal_left z (place_in text o.left_at) (place_in text o.right_at) (typed_at s a) (tree_at s t) (tree_at s u)))
-equal_after z s text (equal.Last t) o = on_term (λ _. typed_answer (equal_last (tree_at s t)))
+abbrev pub equal_answer : Site → Stored → Sources → EqualRow → Sides → Meaning → Answer Meaning
+equal_answer z s text equal.Iff o = on_typed (λ a. typed_answer (iff_first z (elab_at z text o.left) (elab_at z text o.right) (place_in text o.left_at) (place_in text o.right_at) a))
+equal_answer z s text (equal.IffHead a) o = on_formed (λ d. typed_answer (iff_head z (elab_at z text o.left) (elab_at z text o.right) (place_in text o.left_at) (place_in text o.right_at) (typed_at s a) d))
+equal_answer z s text equal.Right o = on_typed (λ a. typed_answer (equal_first z (elab_at z text o.left) (elab_at z text o.right) (place_in text o.left_at) (place_in text o.right_at) a))
+equal_answer z s text (equal.Equation a) o = on_typed (λ b. typed_answer (equal_tree z (elab_at z text o.left) (place_in text o.left_at) (place_in text o.right_at) (typed_at s a) b))
+equal_answer z s text (equal.Typing a b) o = on_term (λ t. typed_answer (equal_typing z (elab_at z text o.left) (place_in text o.left_at) (place_in text o.right_at) (typed_at s a) (typed_at s b) t))
+equal_answer z s text (equal.Refused c) o = on_done (fault (place_in text o.left_at) c)
+equal_answer z s text (equal.RightSide a b t) o = on_formed (λ u. typed_answer (equal_right z (place_in text o.left_at) (place_in text o.right_at) (typed_at s a) (typed_at s b) (tree_at s t) u))
+equal_answer z s text (equal.LeftSide a t u) o = on_term (λ _. typed_answer (equal_left z (place_in text o.left_at) (place_in text o.right_at) (typed_at s a) (tree_at s t) (tree_at s u)))
+equal_answer z s text (equal.Last t) o = on_term (λ _. typed_answer (equal_last (tree_at s t)))
 
 abbrev pub equal_numbers : EqualRow → List (Sort × ℕ)
 equal_numbers equal.Iff = []

@@ -154,12 +154,12 @@ pub record Failed {Y : Type 0} (a b : Known) (r : Answer Y) (e : ElabFault) : Ty
   pub is : IsFault r e
 
 -- the site under a hypothesis
-abbrev pub under : Tree → Site → Site
-under p z = record { lookups = z.lookups; names = z.names; here = under_hypothesis p z.here }
+abbrev pub hypothesis_site : Tree → Site → Site
+hypothesis_site p z = record { lookups = z.lookups; names = z.names; here = under_hypothesis p z.here }
 
 -- the site under a variable of this name and type
-abbrev pub below : Text → Tree → Site → Site
-below x a z = record { lookups = z.lookups; names = z.names; here = under_name x a z.here }
+abbrev pub variable_site : Text → Tree → Site → Site
+variable_site x a z = record { lookups = z.lookups; names = z.names; here = under_name x a z.here }
 
 -- typing accepts, with this result
 abbrev pub Accepts : {A : Type 0} → Outcome A → A → Type 0

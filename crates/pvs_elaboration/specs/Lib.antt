@@ -5,4 +5,9 @@ pub mod Names
 pub mod Apply
 pub mod Binder
 pub mod Equal
+pub mod Lets
+pub mod Subtypes
+pub mod Tuples
+pub mod Parts
 pub mod Machine
+pub mod Listing

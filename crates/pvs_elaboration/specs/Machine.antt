@@ -30,13 +30,17 @@ use Rattle.pvs_elaboration.specs.declared.frame.Turn.{Turn}
 use Rattle.pvs_elaboration.specs.declared.frame.Turn.TheVariants as turn
 use Rattle.pvs_terms.specs.declared.node.Node.{Node}
 use Rattle.pvs_terms.specs.declared.node.Node.TheVariants as node
-use Rattle.pvs_elaboration.specs.Known.{Sources, phrase_at, place_in, word_at, Known, Grows, Site, site_in, under, below, IsHere, AreKnownNumbers, IsUnder, IsBelow, Failed}
+use Rattle.pvs_elaboration.specs.Known.{Sources, phrase_at, place_in, word_at, Known, Grows, Site, site_in, hypothesis_site, variable_site, IsHere, AreKnownNumbers, IsUnder, IsBelow, Failed}
 use Rattle.pvs_elaboration.specs.Meanings.{Meaning, Typed, Term, Formed, meaning, value_numbers, typed_at, typed_answer, term_answer, formed_answer, done_answer, on_typed, on_term, on_formed}
-use Rattle.pvs_elaboration.specs.Choice.{choice_after, choice_numbers, not_after, not_numbers}
-use Rattle.pvs_elaboration.specs.Names.{name_after, name_numbers}
-use Rattle.pvs_elaboration.specs.Apply.{apply_after, apply_numbers}
-use Rattle.pvs_elaboration.specs.Binder.{binder_after, binder_numbers}
-use Rattle.pvs_elaboration.specs.Equal.{equal_after, equal_numbers}
+use Rattle.pvs_elaboration.specs.Choice.{choice_answer, choice_numbers, not_answer, not_numbers}
+use Rattle.pvs_elaboration.specs.Names.{name_answer, name_numbers}
+use Rattle.pvs_elaboration.specs.Apply.{apply_answer, apply_numbers}
+use Rattle.pvs_elaboration.specs.Binder.{binder_answer, binder_numbers}
+use Rattle.pvs_elaboration.specs.Equal.{equal_answer, equal_numbers}
+use Rattle.pvs_elaboration.specs.Lets.{let_answer, let_numbers}
+use Rattle.pvs_elaboration.specs.Subtypes.{subtype_answer, subtype_numbers, predicate_answer, predicate_numbers}
+use Rattle.pvs_elaboration.specs.Tuples.{tuple_answer, tuple_numbers, product_answer, product_numbers}
+use Rattle.pvs_elaboration.specs.Parts.{part_answer, part_numbers}
 
 -- what a phrase answers
 abbrev pub asked_at : Site → Stored → Sources → Mode → Phrase → Answer Meaning
@@ -58,17 +62,23 @@ abbrev pub coerced_at : Site → Pos → Pos → Tree → TypedTree → Answer T
 coerced_at z large at u t = from_outcome_at large at (coerce z.lookups z.here.context t.tree t.ty u) >>= (λ _. Ok t.tree)
 
 -- what is answered once a value is given to a frame
-abbrev pub after : Site → Stored → Sources → Frame → Meaning → Answer Meaning
-after z s text frame.Same = λ m. Ok m
-after z s text (frame.Coerce large at u) = on_typed (λ t. term_answer (coerced_at z (place_in text large) (place_in text at) (tree_at s u) t))
-after z s text (frame.WithType a) = on_term (λ t. Ok (Typed (record { tree = t; ty = tree_at s a })))
-after z s text (frame.WithTerm t) = on_formed (λ u. Ok (Typed (record { tree = tree_at s t; ty = u })))
-after z s text (frame.Choice f b) = choice_after z s text f b
-after z s text (frame.Not f pos at) = not_after z s text f pos at
-after z s text (frame.Name f at) = name_after z s text f at
-after z s text (frame.Apply f o) = apply_after z s text f o
-after z s text (frame.Binder f o) = binder_after z s text f o
-after z s text (frame.Equal f o) = equal_after z s text f o
+abbrev pub frame_answer : Site → Stored → Sources → Frame → Meaning → Answer Meaning
+frame_answer z s text frame.Same = λ m. Ok m
+frame_answer z s text (frame.Coerce large at u) = on_typed (λ t. term_answer (coerced_at z (place_in text large) (place_in text at) (tree_at s u) t))
+frame_answer z s text (frame.WithType a) = on_term (λ t. Ok (Typed (record { tree = t; ty = tree_at s a })))
+frame_answer z s text (frame.WithTerm t) = on_formed (λ u. Ok (Typed (record { tree = tree_at s t; ty = u })))
+frame_answer z s text (frame.Choice f b) = choice_answer z s text f b
+frame_answer z s text (frame.Not f pos at) = not_answer z s text f pos at
+frame_answer z s text (frame.Name f at) = name_answer z s text f at
+frame_answer z s text (frame.Apply f o) = apply_answer z s text f o
+frame_answer z s text (frame.Binder f o) = binder_answer z s text f o
+frame_answer z s text (frame.Equal f o) = equal_answer z s text f o
+frame_answer z s text (frame.Let f o) = let_answer z s text f o
+frame_answer z s text (frame.Subtype f o) = subtype_answer z s text f o
+frame_answer z s text (frame.Predicate f start at) = predicate_answer z s text f start at
+frame_answer z s text (frame.Tuple f o) = tuple_answer z s text f o
+frame_answer z s text (frame.Product f k o) = product_answer z s text f k o
+frame_answer z s text (frame.Part f o) = part_answer z s text f o
 
 abbrev pub frame_numbers : Frame → List (Sort × ℕ)
 frame_numbers frame.Same = []
@@ -81,6 +91,12 @@ frame_numbers (frame.Name f at) = name_numbers f
 frame_numbers (frame.Apply f o) = apply_numbers f
 frame_numbers (frame.Binder f o) = binder_numbers f
 frame_numbers (frame.Equal f o) = equal_numbers f
+frame_numbers (frame.Let f o) = let_numbers f
+frame_numbers (frame.Subtype f o) = subtype_numbers f
+frame_numbers (frame.Predicate f start at) = predicate_numbers f
+frame_numbers (frame.Tuple f o) = tuple_numbers f
+frame_numbers (frame.Product f k o) = product_numbers f
+frame_numbers (frame.Part f o) = part_numbers f
 
 abbrev pub control_answer : Site → Stored → Sources → Control → Answer Meaning
 control_answer z s text (control.Ask p m) = asked_at z s text m (phrase_at text p)
@@ -93,10 +109,10 @@ control_numbers (control.Coerce t large at u) = (OfTerm, t.tree) ∷ (OfType, t.
 control_numbers (control.Give v) = value_numbers v
 
 -- the site that is entered
-abbrev pub entered : Site → Stored → Sources → Entrance → Site
-entered z s t entrance.Here = z
-entered z s t (entrance.Hypothesis p) = under (tree_at s p) z
-entered z s t (entrance.Variable x a) = below (word_at t x) (tree_at s a) z
+abbrev pub entrance_site : Site → Stored → Sources → Entrance → Site
+entrance_site z s t entrance.Here = z
+entrance_site z s t (entrance.Hypothesis p) = hypothesis_site (tree_at s p) z
+entrance_site z s t (entrance.Variable x a) = variable_site (word_at t x) (tree_at s a) z
 
 abbrev pub entrance_numbers : Entrance → List (Sort × ℕ)
 entrance_numbers entrance.Here = []
@@ -105,7 +121,7 @@ entrance_numbers (entrance.Variable x a) = (OfType, a) ∷ []
 
 -- what is answered after a step
 abbrev pub next_answer : Site → Stored → Sources → Next → Answer Meaning
-next_answer z s text n = control_answer (entered z s text n.entrance) s text n.control >>= after z s text n.frame
+next_answer z s text n = control_answer (entrance_site z s text n.entrance) s text n.control >>= frame_answer z s text n.frame
 
 pub record IsKnownNext (k : Known) (n : Next) : Type 0 where
   pub entrance : AreKnownNumbers k (entrance_numbers n.entrance)
@@ -123,10 +139,10 @@ Steps a b text h r (Ok n) = Follows a b text h r n
 Steps a b text h r (Err e) = Failed a b r e
 
 -- what is left, the first first
-abbrev pub rest : Known → Sources → Here → List Entry → Meaning → Answer Meaning
-rest k text h [] m = Ok m
-rest k text h (entry.Use f ∷ es) m = after (site_in k text h) k.stored text f m >>= rest k text h es
-rest k text h (entry.Leave o ∷ es) m = rest k text o es m
+abbrev pub entries_answer : Known → Sources → Here → List Entry → Meaning → Answer Meaning
+entries_answer k text h [] m = Ok m
+entries_answer k text h (entry.Use f ∷ es) m = frame_answer (site_in k text h) k.stored text f m >>= entries_answer k text h es
+entries_answer k text h (entry.Leave o ∷ es) m = entries_answer k text o es m
 
 abbrev pub IsKnownEntry : Known → Entry → Type 0
 IsKnownEntry k (entry.Use f) = AreKnownNumbers k (frame_numbers f)
@@ -138,7 +154,7 @@ AreKnownEntries k (e ∷ es) = IsKnownEntry k e × AreKnownEntries k es
 
 -- what a machine answers
 unfoldable pub machine_answer : Known → Sources → Machine → Control → Answer Meaning
-machine_answer k text m c = control_answer (site_in k text m.here) k.stored text c >>= rest k text m.here (reverse m.entries.items)
+machine_answer k text m c = control_answer (site_in k text m.here) k.stored text c >>= entries_answer k text m.here (reverse m.entries.items)
 
 pub record IsMachine (k : Known) (m : Machine) : Type 0 where
   pub here : IsHere k m.here
@@ -196,13 +212,13 @@ IsTypeNode _ = ⊥
 
 -- a tree that is made at a place, and what is done with it
 abbrev pub made_answer : Site → Stored → Sources → ℕ → Tree → Frame → Answer Meaning
-made_answer z s text at t f = within_limits_at (place_in text at) t >>= (λ t. after z s text f (Term t))
+made_answer z s text at t f = within_limits_at (place_in text at) t >>= (λ t. frame_answer z s text f (Term t))
 
 -- the same for a type
 abbrev pub made_type_answer : Site → Stored → Sources → ℕ → Tree → Frame → Answer Meaning
-made_type_answer z s text at t f = within_limits_at (place_in text at) t >>= (λ t. after z s text f (Formed t))
+made_type_answer z s text at t f = within_limits_at (place_in text at) t >>= (λ t. frame_answer z s text f (Formed t))
 
 -- the term that a local name or a constant stands for, where so many variables are bound, and what is done with it
 abbrev pub named_answer : Site → Stored → Sources → ℕ → Text → ℕ → Option (ℕ × ℕ) → Frame → Answer Meaning
 named_answer z s text d x at None f = from_name (place_in text at) (z.names.constant_named x) >>= (λ r. made_answer z s text at (Const r) f)
-named_answer z s text d x at (Some i) f = within_limits_at (place_in text at) (lift (tree_at s i.0) (d - i.1) 0) >>= (λ t. after z s text f (Term t))
+named_answer z s text d x at (Some i) f = within_limits_at (place_in text at) (lift (tree_at s i.0) (d - i.1) 0) >>= (λ t. frame_answer z s text f (Term t))

@@ -11,6 +11,7 @@ use Rattle.pvs_types.specs.Typing.{infer, check, well_formed}
 use Rattle.pvs_elab.specs.Answer.{Answer, from_outcome}
 use Rattle.pvs_elab.specs.Names.{Names}
 use Rattle.pvs_elab.specs.Elab.{TypedTree}
+use Rattle.pvs_elaboration.specs.declared.here.Local.{Local}
 use Rattle.pvs_elaboration.specs.declared.names.NameRow.{NameRow}
 use Rattle.pvs_elaboration.specs.declared.names.NameRow.TheVariants as name
 use Rattle.pvs_elaboration.specs.Known.{Sources, place_in, Site}
@@ -28,10 +29,10 @@ checked_at z at u t = from_outcome at (check z.lookups z.here.context t u) >>= (
 abbrev pub accepted_at : Site → Pos → Tree → Answer Tree
 accepted_at z at t = from_outcome at (well_formed z.lookups z.here.context t) >>= (λ _. Ok t)
 
-abbrev pub name_after : Site → Stored → Sources → NameRow → ℕ → Meaning → Answer Meaning
-name_after z s text name.Infer at = on_term (λ t. typed_answer (inferred_at z (place_in text at) t))
-name_after z s text (name.Check u) at = on_term (λ t. term_answer (checked_at z (place_in text at) (tree_at s u) t))
-name_after z s text name.Formed at = on_formed (λ t. formed_answer (accepted_at z (place_in text at) t))
+abbrev pub name_answer : Site → Stored → Sources → NameRow → ℕ → Meaning → Answer Meaning
+name_answer z s text name.Infer at = on_term (λ t. typed_answer (inferred_at z (place_in text at) t))
+name_answer z s text (name.Check u) at = on_term (λ t. term_answer (checked_at z (place_in text at) (tree_at s u) t))
+name_answer z s text name.Formed at = on_formed (λ t. formed_answer (accepted_at z (place_in text at) t))
 
 abbrev pub name_numbers : NameRow → List (Sort × ℕ)
 name_numbers name.Infer = []
@@ -48,3 +49,8 @@ pub record IsVariable (s : Stored) (names : Names) (x : Text) (i : ℕ) : Type 0
 abbrev pub local_tree : Stored → ℕ → Option (ℕ × ℕ) → Option Tree
 local_tree s d None = None
 local_tree s d (Some i) = Some (lift (tree_at s i.0) (d - i.1) 0)
+
+-- the term of a local name, and how many variables were bound where it was
+abbrev pub numbers_of : Option Local → Option (ℕ × ℕ)
+numbers_of None = None
+numbers_of (Some l) = Some (l.term, l.at)

@@ -10,7 +10,11 @@ use crate::binder::{BinderRow, Binding};
 use crate::choice::{Branches, ChoiceRow, NotRow};
 use crate::equal::{EqualRow, Sides};
 use crate::here::{Here, Typed};
+use crate::lets::{Definition, LetRow};
 use crate::names::NameRow;
+use crate::parts::{PartRow, Projection};
+use crate::subtypes::{PredicateRow, SubtypeRow};
+use crate::tuples::{Pair, ProductRow, TupleRow};
 use crate::value::{Mode, Value};
 use pvs_terms::Id;
 
@@ -33,6 +37,14 @@ pub(crate) enum Frame {
     Apply(ApplyRow, Operands),
     Binder(BinderRow, Binding),
     Equal(EqualRow, Sides),
+    Let(LetRow, Definition),
+    Subtype(SubtypeRow, Binding),
+    /// A predicate as a type, with the place where it begins, and that of the whole.
+    Predicate(PredicateRow, usize, usize),
+    Tuple(TupleRow, Pair),
+    /// A type of tuples, with the number of components beyond two.
+    Product(ProductRow, usize, Binding),
+    Part(PartRow, Projection),
 }
 
 /// What is done at a place of the text.
@@ -121,6 +133,17 @@ pub(crate) fn ask_under(hypothesis: Id, part: usize, mode: Mode, frame: Frame) -
 {
     Next {
         entrance: Entrance::Hypothesis(hypothesis),
+        control: Control::Ask(part, mode),
+        frame,
+    }
+}
+
+/// The same under a variable of this name and type.
+pub(crate) fn ask_with(name: usize, ty: Id, part: usize, mode: Mode, frame: Frame) -> Next
+    ensures { result ≡ record { entrance = spec_entrance.Variable name ty; control = spec_control.Ask part mode; frame = frame } }
+{
+    Next {
+        entrance: Entrance::Variable(name, ty),
         control: Control::Ask(part, mode),
         frame,
     }

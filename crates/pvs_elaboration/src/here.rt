@@ -79,7 +79,7 @@ impl Here {
     }
 
     /// The same place, under a hypothesis.
-    pub(crate) fn under(&self, alloc: Global, hypothesis: Id) -> Result<Here, AllocError>
+    pub(crate) fn with_hypothesis(&self, alloc: Global, hypothesis: Id) -> Result<Here, AllocError>
         ensures { IfOk result (IsUnder self.now hypothesis) }
     {
         let locals = Items::from_slice(alloc, self.locals.as_slice())?;
@@ -98,7 +98,12 @@ impl Here {
     /// The place under a variable of this type, with this name for it.
     ///
     /// Memory also where the number of variables is too great.
-    pub(crate) fn below(&self, alloc: Global, name: usize, ty: Id) -> Result<Here, ElabFault>
+    pub(crate) fn with_variable(
+        &self,
+        alloc: Global,
+        name: usize,
+        ty: Id,
+    ) -> Result<Here, ElabFault>
         ensures { IfOk result (IsBelow self.now name ty) }
     {
         if self.depth == u32::MAX {

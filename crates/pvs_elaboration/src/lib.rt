@@ -8,9 +8,17 @@ mod equal;
 mod fault;
 mod frame;
 mod here;
+mod join;
+mod lets;
+mod listing;
 mod machine;
+mod making;
 mod names;
+mod parts;
 mod scope;
+mod steps;
+mod subtypes;
+mod tuples;
 mod value;
 
 pub use fault::ElabFault;

@@ -26,12 +26,12 @@ fn enter(alloc: Global, machine: &mut Machine, entrance: Entrance) -> Result<(),
     match entrance {
         Entrance::Here => Ok(()),
         Entrance::Hypothesis(p) => {
-            let inner = machine.here.under(alloc, p)?;
+            let inner = machine.here.with_hypothesis(alloc, p)?;
             move_to(machine, inner)?;
             Ok(())
         }
         Entrance::Variable(name, ty) => {
-            let inner = machine.here.below(alloc, name, ty)?;
+            let inner = machine.here.with_variable(alloc, name, ty)?;
             move_to(machine, inner)?;
             Ok(())
         }

@@ -50,6 +50,13 @@ pub trait Scope {
         ensures large { result ≡ Err SubstFault.TooLarge → ¬ IsWithinLimits (lift (tree_at (known self.old).stored id) by 0) }
         ensures kept { Grows (known self.old) (known self.new) };
 
+    /// A type under more variables.
+    fn lift_type(&mut self, id: Id, by: u32) -> Result<Id, SubstFault>
+        requires { IsTypeOf (known self.old) id }
+        ensures ok { IfOk result (Gives (known self.new).stored (known self.new).declares OfType (lift (tree_at (known self.old).stored id) by 0)) }
+        ensures large { result ≡ Err SubstFault.TooLarge → ¬ IsWithinLimits (lift (tree_at (known self.old).stored id) by 0) }
+        ensures kept { Grows (known self.old) (known self.new) };
+
     /// A type with a term in the place of its index 0.
     fn put_in(&mut self, body: Id, arg: Id) -> Result<Id, SubstFault>
         requires body { IsTypeOf (known self.old) body }

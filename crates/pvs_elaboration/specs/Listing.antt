@@ -1,0 +1,106 @@
+-- What is listed, as the text has it.
+use Rattle.std.specs.Prelude.{◌≡◌, ℕ, List, [], ◌∷◌, ◌++◌, map}
+use Rattle.std.specs.Borrow.{Bor}
+use Rattle.pvs_base.specs.declared.place.Pos.{Pos}
+use Rattle.pvs_terms.specs.Tree.{Text}
+use Rattle.pvs_elab.specs.Phrase.{Phrase, place}
+use Rattle.pvs_elab.specs.Phrase as phrase
+use Rattle.pvs_phrases.specs.declared.part.Part.{Part}
+use Rattle.pvs_phrases.specs.declared.part.Place.{Place}
+use Rattle.pvs_phrases.specs.Parts as parts
+use Rattle.pvs_elaboration.specs.declared.fault.ElabFault.{ElabFault}
+use Rattle.pvs_elaboration.specs.declared.fault.ElabFault.TheVariants as elab_fault
+use Rattle.pvs_elaboration.specs.declared.binder.Binding.{Binding}
+use Rattle.pvs_elaboration.specs.declared.equal.Sides.{Sides}
+use Rattle.pvs_elaboration.specs.declared.listing.Listing.{Listing}
+use Rattle.pvs_elaboration.specs.declared.listing.Form.{Form}
+use Rattle.pvs_elaboration.specs.declared.listing.Form.TheVariants as form
+use Rattle.pvs_elaboration.specs.Known.{Sources, phrase_at, place_in, word_at}
+
+abbrev pub bytes_of : List (Bor Text) → List Text
+bytes_of xs = map (λ x. x.now) xs
+
+-- these sources have what is listed at its numbers, and perhaps more after it
+pub record Lists (l : Listing) (t : Sources) : Type 0 where
+  pub more_phrases : List Phrase
+  pub more_places : List Pos
+  pub more_words : List Text
+  pub phrases : t.phrases ≡ map (parts.phrase_at l.text.now) l.parts.items ++ more_phrases
+  pub places : t.places ≡ map (parts.place_in l.text.now) l.places.items ++ more_places
+  pub words : t.words ≡ bytes_of l.names.items ++ more_words
+
+-- the places of both sides are where they begin
+pub record AreStarts (t : Sources) (s : Sides) : Type 0 where
+  pub left : place_in t s.left_at ≡ place (phrase_at t s.left)
+  pub right : place_in t s.right_at ≡ place (phrase_at t s.right)
+
+-- the phrase has this form
+abbrev pub IsForm : Sources → Form → Phrase → Type 0
+IsForm t (form.Name x p) e = e ≡ phrase.Name (word_at t x) (place_in t p)
+IsForm t (form.Truth b p) e = e ≡ phrase.Truth b (place_in t p)
+IsForm t (form.TypeOf x p) e = e ≡ phrase.TypeOf (word_at t x) (place_in t p)
+IsForm t (form.Group x p) e = e ≡ phrase.Group (phrase_at t x) (place_in t p)
+IsForm t (form.Not x p) e = e ≡ phrase.Not (phrase_at t x) (place_in t p)
+IsForm t (form.Choice c b) e =
+    (e ≡ phrase.Choice b.early (phrase_at t c) (phrase_at t b.first) (phrase_at t b.second) (place_in t b.join) (place_in t b.at))
+    × (place_in t b.first_at ≡ place (phrase_at t b.first)) × (place_in t b.second_at ≡ place (phrase_at t b.second))
+IsForm t (form.Apply f o) e = (e ≡ phrase.Apply (phrase_at t f) (phrase_at t o.argument)) × (place_in t o.at ≡ place (phrase_at t f))
+IsForm t (form.Equal s) e = (e ≡ phrase.Equal (phrase_at t s.left) (phrase_at t s.right)) × AreStarts t s
+IsForm t (form.Iff s) e = (e ≡ phrase.Iff (phrase_at t s.left) (phrase_at t s.right)) × AreStarts t s
+IsForm t (form.Forall a o) e = e ≡ phrase.All (word_at t o.name) (phrase_at t a) (phrase_at t o.body) (place_in t o.at)
+IsForm t (form.Lambda a o) e = e ≡ phrase.Lambda (phrase_at t a) (word_at t o.name ∷ []) (phrase_at t o.body) (place_in t o.at)
+IsForm t (form.Function a o) e = e ≡ phrase.Function (phrase_at t a) (word_at t o.name ∷ []) (phrase_at t o.body) (place_in t o.at)
+IsForm t (form.Other p) e = e ≡ phrase.Other (place_in t p)
+IsForm t form.Unbuilt e = Unit {0}
+
+-- what was listed still is, of the same text
+pub record IsMore (l m : Listing) : Type 0 where
+  pub text : m.text.now ≡ l.text.now
+  pub lists : (t : Sources) → Lists m t → Lists l t
+
+-- what is listed, and the number that it has
+
+pub record IsPartAdded (l m : Listing) (p : Part) (i : ℕ) : Type 0 where
+  pub more : IsMore l m
+  pub is : (t : Sources) → Lists m t → phrase_at t i ≡ parts.phrase_at l.text.now p
+
+pub record IsPlaceAdded (l m : Listing) (p : Place) (i : ℕ) : Type 0 where
+  pub more : IsMore l m
+  pub is : (t : Sources) → Lists m t → place_in t i ≡ parts.place_in l.text.now p
+
+pub record IsNameAdded (l m : Listing) (x : Text) (i : ℕ) : Type 0 where
+  pub more : IsMore l m
+  pub is : (t : Sources) → Lists m t → word_at t i ≡ x
+
+-- the place where a part begins
+pub record IsStartAdded (l m : Listing) (p : Part) (i : ℕ) : Type 0 where
+  pub more : IsMore l m
+  pub is : (t : Sources) → Lists m t → place_in t i ≡ place (parts.phrase_at l.text.now p)
+
+pub record IsSidesAdded (l m : Listing) (x y : Part) (s : Sides) : Type 0 where
+  pub more : IsMore l m
+  pub left : (t : Sources) → Lists m t → phrase_at t s.left ≡ parts.phrase_at l.text.now x
+  pub right : (t : Sources) → Lists m t → phrase_at t s.right ≡ parts.phrase_at l.text.now y
+  pub starts : (t : Sources) → Lists m t → AreStarts t s
+
+pub record IsBindingAdded (l m : Listing) (x : Text) (p : Part) (pos : Pos) (b : Binding) : Type 0 where
+  pub more : IsMore l m
+  pub name : (t : Sources) → Lists m t → word_at t b.name ≡ x
+  pub body : (t : Sources) → Lists m t → phrase_at t b.body ≡ parts.phrase_at l.text.now p
+  pub at : (t : Sources) → Lists m t → place_in t b.at ≡ pos
+
+-- a form of this phrase, whose parts are listed
+pub record IsFormAdded (l m : Listing) (e : Phrase) (f : Form) : Type 0 where
+  pub more : IsMore l m
+  pub is : (t : Sources) → Lists m t → IsForm t f e
+
+-- the form of the part of a number, and the place where it begins
+pub record IsFormOf (l m : Listing) (i : ℕ) (f : Form) (at : ℕ) : Type 0 where
+  pub more : IsMore l m
+  pub is : (t : Sources) → Lists m t → IsForm t f (phrase_at t i)
+  pub start : (t : Sources) → Lists m t → place_in t at ≡ place (phrase_at t i)
+
+-- this fault, or memory ran out
+pub data IsFaultOrMemory (f e : ElabFault) : Type 0 where
+  Same : e ≡ f → IsFaultOrMemory f e
+  OutOfMemory : e ≡ elab_fault.Memory → IsFaultOrMemory f e
