@@ -1,7 +1,7 @@
 //! Each public call once. The trees of units are made by hand, over texts of one line.
 
 use crate::{FormulaIndex, Part, add_formula, parts, spelling_of};
-use pvs_base::{Code, Fault, Pos};
+use pvs_base::{Code, Pos};
 use pvs_syntax::{Decl, Expr, FormulaWord, Item, NameExpr, Proof, Theory, TypeExpr, Word};
 use pvs_terms::Store;
 use sqlite_items::{Boxed, Items};
@@ -76,20 +76,56 @@ fn theory(alloc: Global, text: &[u8]) -> Result<Theory, AllocError> {
     })
 }
 
-/// The first fault of the theory of a text, if it has one.
-fn fault_of(alloc: Global, text: &[u8]) -> Result<Option<Fault>, AllocError> {
-    let mut store = Store::new(alloc)?;
+/// The items of a unit that has the theory of a text alone.
+fn one_theory(alloc: Global, text: &[u8]) -> Result<Vec<Item>, AllocError> {
+    let made = theory(alloc, text)?;
     let mut items = Vec::new(alloc);
-    items.push(Item::Theory(theory(alloc, text)?))?;
-    let parts = parts(alloc, &mut store, text, &items)?;
+    items.push(Item::Theory(made))?;
+    Ok(items)
+}
+
+/// The column and the code of the fault of the first part, if it has one.
+fn first_fault(parts: &[Part<'_>]) -> Option<(u32, Code)> {
     match parts.first() {
-        Some(Part::Rejected(_, fault)) => Ok(Some(*fault)),
-        _ => Ok(None),
+        Some(Part::Rejected(_, fault)) => Some((fault.pos.col, fault.code)),
+        _ => None,
     }
+}
+
+fn fault_in(
+    alloc: Global,
+    store: &mut Store,
+    text: &[u8],
+    items: &[Item],
+) -> Result<Option<(u32, Code)>, AllocError> {
+    let made = parts(alloc, store, text, items)?;
+    Ok(first_fault(&made))
+}
+
+/// The first fault of the theory of a text, if it has one.
+fn fault_of(
+    alloc: Global,
+    store: &mut Store,
+    text: &[u8],
+) -> Result<Option<(u32, Code)>, AllocError> {
+    let items = one_theory(alloc, text)?;
+    fault_in(alloc, store, text, &items)
+}
+
+/// Whether the theory of a text has this fault, or none.
+fn has_fault(
+    alloc: Global,
+    store: &mut Store,
+    text: &[u8],
+    fault: Option<(u32, Code)>,
+) -> Result<bool, AllocError> {
+    let found = fault_of(alloc, store, text)?;
+    Ok(found == fault)
 }
 
 #[test]
 fn faults_of_theories(rt: HostRuntime) -> Result<(), Fail> {
+    let mut store = Store::new(rt.alloc())?;
     for (text, fault) in [
         (b"bool t p:b l=p q:b m=p".as_slice(), None),
         (b"bool t p:b p=p", None),
@@ -99,46 +135,90 @@ fn faults_of_theories(rt: HostRuntime) -> Result<(), Fail> {
         (b"bool t l=q l=q", Some((12, Code::Duplicate))),
         (b"bool t p:b p:c", Some((6, Code::OutOfProfile))),
     ] {
-        let found = fault_of(rt.alloc(), text)?.map(|fault| (fault.pos.col, fault.code));
-        assert_eq!(rt; found, fault);
+        assert!(rt; has_fault(rt.alloc(), &mut store, text, fault)?);
     }
     Ok(())
 }
 
-/// The kind of a part, its name, and how many entries it has.
-fn summary(part: &Part<'_>) -> (&'static str, Word, usize) {
-    match part {
-        Part::Accepted(name, entries) => ("accepted", *name, entries.len()),
-        Part::Rejected(name, _) => ("refused", *name, 0),
-        Part::Proving(proof) => ("proof", proof.formula, 0),
-    }
-}
-
-#[test]
-fn parts_of_a_unit(rt: HostRuntime) -> Result<(), Fail> {
-    let alloc = rt.alloc();
-    let text = b"bool t p:b l=p";
-    let mut store = Store::new(alloc)?;
-    let mut items = Vec::new(alloc);
-    items.push(Item::Theory(theory(alloc, text)?))?;
-    items.push(Item::Theory(theory(alloc, text)?))?;
-    items.push(Item::Proof(Proof {
+/// A proof of the lemma l of the theory t in `bool t p:b l=p`.
+fn proof() -> Proof {
+    Proof {
         theory: word(5, 1),
         formula: word(11, 1),
         start: 0,
         end: 0,
         pos: place(0),
-    }))?;
-    let parts = parts(alloc, &mut store, text, &items)?;
-    let expected = [("accepted", "t", 2), ("refused", "t", 0), ("proof", "l", 0)];
-    assert_eq!(rt; parts.len(), expected.len());
-    for (part, (kind, name, entries)) in parts.iter().zip(expected) {
-        let found = summary(part);
-        assert_eq!(rt; found.0, kind);
-        assert_eq!(rt; spelling_of(text, &found.1), name.as_bytes());
-        assert_eq!(rt; found.2, entries);
     }
+}
+
+/// A unit that has the theory of a text twice, and then a proof.
+fn two_theories(alloc: Global, text: &[u8]) -> Result<Vec<Item>, AllocError> {
+    let mut items = one_theory(alloc, text)?;
+    let again = theory(alloc, text)?;
+    items.push(Item::Theory(again))?;
+    items.push(Item::Proof(proof()))?;
+    Ok(items)
+}
+
+/// Whether a part is accepted with this name, and so many entries.
+fn is_accepted(text: &[u8], part: &Part<'_>, name: &[u8], entries: usize) -> bool {
+    match part {
+        Part::Accepted(word, found) => spelling_of(text, word) == name && found.len() == entries,
+        _ => false,
+    }
+}
+
+/// Whether a part is a refused theory of this name.
+fn is_rejected(text: &[u8], part: &Part<'_>, name: &[u8]) -> bool {
+    match part {
+        Part::Rejected(word, _) => spelling_of(text, word) == name,
+        _ => false,
+    }
+}
+
+/// Whether a part is a proof of a formula of this name.
+fn is_proof(text: &[u8], part: &Part<'_>, name: &[u8]) -> bool {
+    match part {
+        Part::Proving(proof) => spelling_of(text, &proof.formula) == name,
+        _ => false,
+    }
+}
+
+/// Whether the parts are the theory, the second one of its name, and the proof.
+fn are_expected(text: &[u8], parts: &[Part<'_>]) -> bool {
+    match parts {
+        [first, second, third] => {
+            let theories = is_accepted(text, first, b"t", 2) && is_rejected(text, second, b"t");
+            theories && is_proof(text, third, b"l")
+        }
+        _ => false,
+    }
+}
+
+fn has_expected(
+    alloc: Global,
+    store: &mut Store,
+    text: &[u8],
+    items: &[Item],
+) -> Result<bool, AllocError> {
+    let made = parts(alloc, store, text, items)?;
+    Ok(are_expected(text, &made))
+}
+
+#[test]
+fn parts_of_a_unit(rt: HostRuntime) -> Result<(), Fail> {
+    let text = b"bool t p:b l=p";
+    let mut store = Store::new(rt.alloc())?;
+    let items = two_theories(rt.alloc(), text)?;
+    assert!(rt; has_expected(rt.alloc(), &mut store, text, &items)?);
     Ok(())
+}
+
+/// Whether each formula has its first value, and no other formula has one.
+fn has_values(numbers: &FormulaIndex<'_, u32>) -> bool {
+    let first = numbers.find(b"t", b"l") == Some(1);
+    let other = numbers.find(b"l", b"t") == Some(3);
+    first && other && numbers.find(b"t", b"t").is_none()
 }
 
 #[test]
@@ -147,11 +227,14 @@ fn values_of_formulas(rt: HostRuntime) -> Result<(), Fail> {
     numbers.add(b"t", b"l", 1)?;
     numbers.add(b"t", b"l", 2)?;
     numbers.add(b"l", b"t", 3)?;
-    assert_eq!(rt; numbers.find(b"t", b"l"), Some(1));
-    assert_eq!(rt; numbers.find(b"l", b"t"), Some(3));
-    assert_eq!(rt; numbers.find(b"t", b"t"), None);
+    assert!(rt; has_values(&numbers));
+    Ok(())
+}
+
+#[test]
+fn names_of_formulas(rt: HostRuntime) -> Result<(), Fail> {
     let mut names = FormulaIndex::new(rt.alloc());
     add_formula(&mut names, b"t", b"l")?;
-    assert_eq!(rt; names.find(b"t", b"l"), Some(()));
+    assert!(rt; names.find(b"t", b"l").is_some());
     Ok(())
 }
