@@ -1,6 +1,6 @@
 -- Trees with their texts, by computation. T is a formal type, p an own constant, q a formal constant; s!1 and s!2 are the variables
 -- of the sequent, of which index 0 is the second under no binder.
-use Rattle.std.proofs.Common.{◌≡◌, ℕ, List, [], codes, decimal, ◌++◌, refl}
+use Rattle.std.proofs.Common.{◌≡◌, ℕ, [], codes, decimal, ◌++◌, refl}
 use Rattle.pvs_terms.specs.Tree as t
 use Rattle.pvs_terms.specs.Tree.{Text, Tree}
 use Rattle.pvs_printer.specs.BySize.{by_size}
