@@ -1,5 +1,5 @@
 -- The recursion is its step.
-use Rattle.std.proofs.Common.{◌≡◌, ℕ, zero, suc, ◌+◌, ◌<◌, ◌≤◌, refl, arith}
+use Rattle.std.proofs.Common.{ℕ, zero, suc, ◌<◌, arith}
 use Rattle.pvs_printer.specs.BySize.{in_steps, by_size}
 
 module _ {X Y : Type 0} (size : X → ℕ) (step : (X → Y) → X → Y) (base : X → Y) where

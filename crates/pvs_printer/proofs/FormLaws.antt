@@ -1,6 +1,5 @@
 -- The form of a tree is that of its row, over the forms of the parts.
-use Rattle.std.proofs.Common.{◌≡◌, ℕ, zero, suc, ◌+◌, ◌<◌, ◌≤◌, Bool, true, false, List, [], ◌∷◌, Option, Some, None, refl, sym, subst, ap, ap₂, ◌∙◌, arith}
-use Rattle.pvs_terms.specs.declared.shape.Sort.{Sort}
+use Rattle.std.proofs.Common.{◌≡◌, ℕ, ◌+◌, ◌<◌, ◌≤◌, List, [], ◌∷◌, None, refl, ap, ap₂, ◌∙◌, arith}
 use Rattle.pvs_terms.specs.Tree as t
 use Rattle.pvs_terms.specs.Tree.{Tree, Ref, Trees, size, trees_size, ref_size}
 use Rattle.pvs_printer.specs.declared.words.BinderWord.{BinderWord}
@@ -9,10 +8,9 @@ use Rattle.pvs_printer.specs.declared.words.InfixWord.{InfixWord}
 use Rattle.pvs_printer.specs.declared.words.InfixWord.TheVariants as infix_word
 use Rattle.pvs_printer.specs.Form as f
 use Rattle.pvs_printer.specs.Form.{Form, Forms}
-use Rattle.pvs_printer.specs.BySize.{by_size}
 use Rattle.pvs_printer.specs.Row.{Row, row}
 use Rattle.pvs_printer.specs.Row as r
-use Rattle.pvs_printer.specs.RowTree.{tuple, tuple_type, negation, quantified, infix_tree}
+use Rattle.pvs_printer.specs.RowTree.{tuple, tuple_type, quantified, infix_tree}
 use Rattle.pvs_printer.specs.TreeForm.{Printing, form, form_by, no_form, row_form, exprs, actuals, components, ref_form, number_if}
 use Rattle.pvs_printer.specs.Mentions.{mentioned, mentions}
 use Rattle.pvs_printer.specs.Names.{Names}

@@ -2,6 +2,7 @@ pub mod BySizeLaws
 pub mod RowLaws
 pub mod FormLaws
 pub mod Examples
+pub mod ConditionExamples
 pub mod StepLaws
 pub mod MentionLaws
 pub mod PartsLaws

@@ -1,5 +1,5 @@
 -- Which variables are mentioned.
-use Rattle.std.proofs.Common.{◌≡◌, ℕ, suc, ◌+◌, ◌-◌, ◌≤◌, ◌<◌, max, Bool, true, false, ◌||◌, nat_eq, nat_le, List, [], ◌∷◌, refl, sym, ap, ap₂, ◌∙◌, arith, eqb-true}
+use Rattle.std.proofs.Common.{◌≡◌, ℕ, suc, ◌-◌, ◌≤◌, Bool, true, false, ◌||◌, nat_eq, nat_le, ◌∷◌, refl, ap, ap₂, arith, eqb-true}
 use Rattle.pvs_terms.specs.Tree as t
 use Rattle.pvs_terms.specs.Tree.{Tree, free_below}
 use Rattle.pvs_printer.specs.Mentions.{mentions, mentioned}

@@ -1,5 +1,5 @@
 -- Tuples and tuple types with all their tags, step by step.
-use Rattle.std.proofs.Common.{◌≡◌, ◌≢◌, ℕ, suc, ◌-◌, ◌≤◌, length, Bool, true, false, nat_eq, nat_le, ◌==◌, List, [], ◌∷◌, Option, Some, None, refl, sym, ap, ap₂, ◌∙◌, eq-eqb, eqb-true, arith}
+use Rattle.std.proofs.Common.{◌≡◌, ◌≢◌, ℕ, suc, ◌-◌, ◌≤◌, length, Bool, true, false, nat_le, ◌==◌, List, [], ◌∷◌, Option, Some, None, refl, sym, ap, ap₂, ◌∙◌, eq-eqb, eqb-true, arith}
 use Rattle.pvs_terms.specs.Tree as t
 use Rattle.pvs_terms.specs.Tree.{Tree}
 use Rattle.pvs_printer.specs.Row.{Row, parts, components, arguments, before, pair_or, where_}

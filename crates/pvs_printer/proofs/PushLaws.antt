@@ -1,5 +1,6 @@
 -- The tasks that are put on the stack.
-use Rattle.std.proofs.Common.{◌≡◌, ◌≢◌, ℕ, zero, suc, ◌+◌, ◌-◌, ◌<◌, ◌≤◌, length, Bool, true, false, nat_le, nat_eq, ◌==◌, List, [], ◌∷◌, slice_index_or, refl, sym, subst, ap, ap₂, ◌∙◌, add-one, arith}
+use Rattle.std.proofs.Common.{◌≡◌, ℕ, zero, suc, ◌+◌, ◌-◌, ◌<◌, ◌≤◌, length, Bool, true, false, nat_le, ◌==◌, List, [], ◌∷◌, slice_index_or, refl, sym, subst, ap, ◌∙◌, add-one, arith}
+use Rattle.std.specs.Prelude.{Result, OnOk}
 use Rattle.pvs_terms.specs.Tree as t
 use Rattle.pvs_terms.specs.Tree.{Text, Tree, Ref, Trees, ref_actuals, size}
 use Rattle.pvs_terms.specs.Stored.{Stored, tree_at, trees_at, AllBelow}
@@ -8,10 +9,11 @@ use Rattle.pvs_printer.specs.Form.{Declared}
 use Rattle.pvs_printer.specs.Mentions.{mentions, mentioned}
 use Rattle.pvs_printer.specs.Names.{Names}
 use Rattle.pvs_printer.specs.Pieces.{Space, Fixed, Named}
-use Rattle.pvs_printer.specs.code.RowsAt.{apply_row, tuple_row, type_row}
+use Rattle.pvs_printer.specs.code.RowsAt.{apply_row, tuple_row, type_row, row_at}
 use Rattle.pvs_printer.specs.code.Steps.{part_list, component_list, listed_by}
 use Rattle.pvs_printer.specs.code.Tasks.{Task, Write, Print, Operand, Arguments, Components, Actuals, Binding, ref_tasks, row_tasks, argument_tasks, component_tasks, actual_tasks, HasRoom, ComponentsHaveRoom}
-use Rattle.pvs_printer.specs.code.TasksAt.{trees_from, task_at}
+use Rattle.pvs_printer.specs.code.TasksAt.{trees_from, task_at, Pushes}
+use Rattle.pvs_printer.specs.declared.row.Row as code_row
 use Rattle.pvs_printer.specs.declared.tasks.Task as code
 use Rattle.pvs_printer.specs.declared.tasks.Task.TheVariants as task
 use Rattle.pvs_printer.proofs.MentionLaws.{mentioned_listed}
@@ -82,6 +84,10 @@ pub more_components : (d m k : ℕ) (x a b : Tree) → component_list k x ≡ a 
 more_components d m k x a b e h =
     ap (λ n. component_list_of d (mentions 0 b) a (component_list n b)) h ∙ ap (λ n. component_list_of d n a (component_list (k - 1) b)) (sym (mentioned_listed 0 (k - 1) b))
     ∙ components_by d a (component_list (k - 1) b) (filled_components (k - 1) b) ∙ ap (component_tasks d) (sym e)
+
+-- the tasks of a row, where it is another one
+pub row_tasks_of : {T E : Type 0} (s : Stored) (vars d : ℕ) (q r : code_row.Row) (o : Result T E) (old new : List code.Task) → q ≡ r → OnOk o (Pushes s (λ names. row_tasks names vars d (row_at s r)) old new) → OnOk o (Pushes s (λ names. row_tasks names vars d (row_at s q)) old new)
+row_tasks_of s vars d q r o old new e h = subst (λ z. OnOk o (Pushes s (λ names. row_tasks names vars d (row_at s z)) old new)) (sym e) h
 
 -- ---- Actuals.
 

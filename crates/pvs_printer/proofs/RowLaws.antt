@@ -1,11 +1,9 @@
 -- What a row stands for is the tree that it is the row of.
-use Rattle.std.proofs.Common.{◌≡◌, ℕ, zero, suc, ◌+◌, ◌-◌, ◌<◌, ◌≤◌, max, Bool, true, false, if◌then◌else◌, cond, ◌&&◌, ◌==◌, nat_eq, nat_lt, lt-ltb, ltb-true, List, [], ◌∷◌, length, Option, Some, None, refl, sym, subst, ap, ap₂, ◌∙◌, arith}
+use Rattle.std.proofs.Common.{◌≡◌, ℕ, suc, ◌+◌, ◌-◌, ◌<◌, ◌≤◌, Bool, true, false, if◌then◌else◌, ◌==◌, nat_lt, lt-ltb, ltb-true, List, [], ◌∷◌, length, Option, Some, None, refl, sym, ap, ap₂, ◌∙◌, arith}
 use Rattle.std.proofs.lemmas.Bool.Decides.{Decides-eqb}
 use Rattle.pvs_terms.specs.Tree as t
 use Rattle.pvs_terms.specs.Tree.{Tree, tree_eq, size}
 use Rattle.pvs_terms.proofs.TreeLaws.{tree_eq-true}
-use Rattle.pvs_printer.specs.declared.words.BinderWord.TheVariants as binder_word
-use Rattle.pvs_printer.specs.declared.words.InfixWord.TheVariants as infix_word
 use Rattle.pvs_printer.specs.Row.{Row, row, if_row, not_row, equal_row, forall_of, exists_in, not_of, unnegated, parts, components, arguments, before, pair_or, where_, tuple_row, type_row, apply_row, first_row, second_row, climb, climbed}
 use Rattle.pvs_printer.specs.Row as r
 use Rattle.pvs_printer.specs.RowTree.{tuple, tuple_type, negation, quantified, infix_tree, seconds, projected}

@@ -1,5 +1,5 @@
 -- The shapes by steps are those of the rows.
-use Rattle.std.proofs.Common.{◌≡◌, Option, Some, None, refl, ap, ap₂, ◌∙◌}
+use Rattle.std.proofs.Common.{◌≡◌, Option, Some, None, refl, ap, ◌∙◌}
 use Rattle.pvs_terms.specs.Tree as t
 use Rattle.pvs_terms.specs.Tree.{Tree}
 use Rattle.pvs_printer.specs.code.Steps.{◌>>=◌}

@@ -1,5 +1,5 @@
 -- Tasks that are replaced by smaller ones: the pieces stay, and there is less to do.
-use Rattle.std.proofs.Common.{◌≡◌, ℕ, suc, ◌+◌, ◌-◌, ◌<◌, ◌≤◌, Bool, true, false, ◌==◌, List, [], ◌∷◌, ◌++◌, map, Option, Some, None, refl, sym, ap, ap₂, ◌∙◌, append_assoc, append-nil, arith}
+use Rattle.std.proofs.Common.{◌≡◌, ℕ, suc, ◌+◌, ◌<◌, ◌≤◌, Bool, true, false, ◌==◌, List, [], ◌∷◌, ◌++◌, map, Option, Some, None, refl, sym, ap, ◌∙◌, append_assoc, append-nil, arith}
 use Rattle.pvs_terms.specs.Tree as t
 use Rattle.pvs_terms.specs.Tree.{Tree, Ref, Trees, size, trees_size}
 use Rattle.pvs_printer.specs.declared.words.BinderWord.{BinderWord}
@@ -11,12 +11,12 @@ use Rattle.pvs_printer.specs.Form as f
 use Rattle.pvs_printer.specs.Form.{Form, Bound}
 use Rattle.pvs_printer.specs.Mentions.{mentioned}
 use Rattle.pvs_printer.specs.Names.{Names}
-use Rattle.pvs_printer.specs.Pieces.{Piece, Space, Fixed, Named, Number, binder_sign, infix_sign, variable_pieces, guarded, is_tight, pieces, piece_bytes, list_pieces, spell}
+use Rattle.pvs_printer.specs.Pieces.{Piece, Space, Fixed, Named, binder_sign, infix_sign, guarded, is_tight, pieces, piece_bytes, spell}
 use Rattle.pvs_printer.specs.Row as r
 use Rattle.pvs_printer.specs.Row.{Row, row, climb, climbed, second_row, type_row, apply_row, tuple_row, equal_row, not_row, forall_of, exists_in, components, parts, arguments}
 use Rattle.pvs_printer.specs.RowTree.{tuple, tuple_type, quantified, infix_tree}
-use Rattle.pvs_printer.specs.TreeForm.{form, row_form, number_if}
-use Rattle.pvs_printer.specs.code.Tasks.{Task, Write, Print, Operand, Arguments, Components, Actuals, Binding, task_pieces, all_pieces, ref_tasks, row_tasks, is_tight_row, operand_tasks, argument_tasks, component_tasks, actual_tasks, binding_tasks, expand, onto, left_bytes, work, trees_work, arguments_work, components_work, task_work, all_work, HasRoom, AllRoomy, AllHaveRoom, ComponentsHaveRoom, ActualsHaveRoom, IsCompound}
+use Rattle.pvs_printer.specs.TreeForm.{form, row_form}
+use Rattle.pvs_printer.specs.code.Tasks.{Task, Write, Print, Operand, Arguments, Components, Actuals, Binding, task_pieces, all_pieces, row_tasks, is_tight_row, operand_tasks, argument_tasks, component_tasks, actual_tasks, binding_tasks, expand, onto, left_bytes, work, trees_work, arguments_work, components_work, task_work, all_work, HasRoom, AllRoomy, AllHaveRoom, ComponentsHaveRoom, ActualsHaveRoom, IsCompound}
 use Rattle.pvs_printer.proofs.RowLaws.{IsOf, row_of}
 use Rattle.pvs_printer.proofs.FormLaws.{form_rule, Parts, AllOf, AllTrees, parts_small}
 

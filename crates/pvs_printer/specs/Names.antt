@@ -1,5 +1,5 @@
 -- What the entries and formals of theories are called.
-use Rattle.std.specs.Prelude.{ℕ, List, [], Option, Some, None, slice_get}
+use Rattle.std.specs.Prelude.{ℕ, [], Option, Some, None, slice_get}
 use Rattle.pvs_terms.specs.Tree.{Text}
 use Rattle.pvs_sig.specs.Signature.{Signature, FormalSig, Entry}
 use Rattle.pvs_sig.specs.Development.{Development, theory_named}

@@ -1,6 +1,6 @@
 -- The trees that the words and signs of a row stand for: the table of rows read from right to left (CSL-97-2, where the connectives
 -- and quantifiers are abbreviations).
-use Rattle.std.specs.Prelude.{ℕ, zero, suc, ◌+◌, ◌-◌, nat_lt, if◌then◌else◌, true, false, List, [], ◌∷◌, length}
+use Rattle.std.specs.Prelude.{ℕ, zero, suc, ◌-◌, nat_lt, if◌then◌else◌, List, [], ◌∷◌, length}
 use Rattle.pvs_terms.specs.Tree as t
 use Rattle.pvs_terms.specs.Tree.{Tree}
 use Rattle.pvs_printer.specs.declared.words.BinderWord.{BinderWord}

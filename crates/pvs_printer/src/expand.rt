@@ -4,59 +4,22 @@ ghost use Rattle.std.specs.Prelude.{◌≡◌, ◌<◌, ◌-◌, [], ◌∷◌, 
 ghost use Rattle.pvs_terms.specs.Tree.{ref_actuals};
 ghost use Rattle.pvs_terms.specs.Stored.{Stored, IsNode, IsRef, tree_at, ref_at};
 ghost use Rattle.pvs_printer.specs.Names.{Names};
-ghost use Rattle.pvs_printer.specs.Pieces as shown;
-ghost use Rattle.pvs_printer.specs.Pieces.{binder_sign, infix_sign};
-ghost use Rattle.pvs_printer.specs.TreeForm.{single};
 ghost use Rattle.pvs_printer.specs.Mentions.{mentions};
 ghost use Rattle.pvs_printer.specs.Row.{row};
 ghost use Rattle.pvs_printer.specs.code.Steps.{part_list, component_list};
-ghost use Rattle.pvs_printer.specs.code.Tasks.{expand, ref_tasks, row_tasks, operand_tasks, argument_tasks, component_tasks, actual_tasks, binding_tasks, is_tight_row, HasRoom};
-ghost use Rattle.pvs_printer.specs.code.RowsAt.{row_at, RowIn};
-ghost use Rattle.pvs_printer.specs.code.TasksAt.{Pushes, PieceIn, TaskIn, piece_at, task_at, trees_from};
+ghost use Rattle.pvs_printer.specs.code.Tasks.{expand, operand_tasks, argument_tasks, component_tasks, actual_tasks, binding_tasks, is_tight_row, HasRoom};
+ghost use Rattle.pvs_printer.specs.code.RowsAt.{row_at};
+ghost use Rattle.pvs_printer.specs.code.TasksAt.{Pushes, TaskIn, task_at, trees_from};
 
 use crate::row::{Row, row_of};
+use crate::row_tasks::push_row;
 use crate::shapes::mentions;
-use crate::tasks::Piece::{Bound, Entry, Fixed, Formal, Free, Number, Own, Space, Theory};
+use crate::tasks::Piece::{Bound, Fixed, Space};
 use crate::tasks::Task::{Actuals, Arguments, Binding, Components, Operand, Print, Write};
-use crate::tasks::{Piece, Task, push};
-use crate::words::{BinderWord, InfixWord, Sign};
-use pvs_terms::{Binder, Id, Joint, RefId, RefKind, Shape, Store};
+use crate::tasks::{Task, push};
+use crate::words::Sign;
+use pvs_terms::{Binder, Id, Joint, RefId, Shape, Store};
 use std::alloc::AllocError;
-
-/// How a binder begins.
-fn binder_sign(word: BinderWord) -> Sign
-    ensures { result ≡ binder_sign word }
-{
-    match word {
-        BinderWord::Forall => Sign::Forall,
-        BinderWord::Exists => Sign::Exists,
-        BinderWord::Lambda => Sign::Lambda,
-    }
-}
-
-/// How an operator is written.
-fn infix_sign(word: InfixWord) -> Sign
-    ensures { result ≡ infix_sign word }
-{
-    match word {
-        InfixWord::And => Sign::And,
-        InfixWord::Or => Sign::Or,
-        InfixWord::Implies => Sign::Implies,
-        InfixWord::Equal => Sign::Equal,
-    }
-}
-
-/// The variable of an index under so many binders, for a sequent with so many variables.
-fn variable(variables: u32, depth: u32, index: u32) -> Piece
-    ensures is { (s : Stored) (names : Names) → piece_at s names result ≡ shown.Named (single variables depth index) }
-    ensures within { (s : Stored) → PieceIn s result }
-{
-    if index < depth {
-        Bound(depth - index)
-    } else {
-        Free(variables.saturating_sub(index - depth))
-    }
-}
 
 /// Whether a tree of this row stands as an operand without parentheses.
 fn is_tight(row: Row) -> bool
@@ -67,217 +30,6 @@ fn is_tight(row: Row) -> bool
         Row::Not(_) => false,
         Row::Infix(_, _, _) => false,
         _ => true,
-    }
-}
-
-/// The tasks of a reference.
-fn push_name(store: &Store, r: RefId, stack: &mut Vec<Task>) -> Result<(), AllocError>
-    requires { IsRef store.now r }
-    ensures { OnOk result (Pushes store.now (λ names. ref_tasks names (ref_at store.now r)) stack.old.items stack.new.items) }
-{
-    match store.kind(r) {
-        RefKind::Own(n) => push(stack, &[Write(Own(n))]),
-        RefKind::Formal(n) => push(stack, &[Write(Formal(n))]),
-        RefKind::Inst(theory, n) => {
-            if store.actuals(r).is_empty() {
-                push(
-                    stack,
-                    &[
-                        Write(Theory(theory)),
-                        Write(Fixed(Sign::Dot)),
-                        Write(Entry(theory, n)),
-                    ],
-                )
-            } else {
-                push(
-                    stack,
-                    &[
-                        Write(Theory(theory)),
-                        Write(Fixed(Sign::OpenBracket)),
-                        Actuals(r, 0),
-                        Write(Fixed(Sign::CloseBracket)),
-                        Write(Fixed(Sign::Dot)),
-                        Write(Entry(theory, n)),
-                    ],
-                )
-            }
-        }
-    }
-}
-
-/// The tasks of a row, under so many binders.
-fn push_row(
-    store: &Store,
-    variables: u32,
-    depth: u32,
-    row: Row,
-    stack: &mut Vec<Task>,
-) -> Result<(), AllocError>
-    requires within { RowIn store.now row }
-    requires depth { depth < 1000000 }
-    ensures { OnOk result (Pushes store.now (λ names. row_tasks names variables depth (row_at store.now row)) stack.old.items stack.new.items) }
-{
-    match row {
-        Row::Named(_, r) => push_name(store, r, stack),
-        Row::Truth(value) => {
-            let word = if value { Sign::True } else { Sign::False };
-            push(stack, &[Write(Fixed(word))])
-        }
-        Row::Variable(n) => push(stack, &[Write(variable(variables, depth, n))]),
-        Row::Quantified(word, a, p) => push(
-            stack,
-            &[
-                Write(Fixed(binder_sign(word))),
-                Write(Space),
-                Write(Fixed(Sign::Open)),
-                Write(Bound(depth + 1)),
-                Write(Fixed(Sign::Colon)),
-                Write(Space),
-                Print(depth, a),
-                Write(Fixed(Sign::Close)),
-                Write(Fixed(Sign::Colon)),
-                Write(Space),
-                Print(depth + 1, p),
-            ],
-        ),
-        Row::Not(a) => push(
-            stack,
-            &[Write(Fixed(Sign::Not)), Write(Space), Operand(depth, a)],
-        ),
-        Row::Infix(word, a, b) => push(
-            stack,
-            &[
-                Operand(depth, a),
-                Write(Space),
-                Write(Fixed(infix_sign(word))),
-                Write(Space),
-                Operand(depth, b),
-            ],
-        ),
-        Row::Cond(c, a, b) => push(
-            stack,
-            &[
-                Write(Fixed(Sign::If)),
-                Write(Space),
-                Print(depth, c),
-                Write(Space),
-                Write(Fixed(Sign::Then)),
-                Write(Space),
-                Print(depth, a),
-                Write(Space),
-                Write(Fixed(Sign::Else)),
-                Write(Space),
-                Print(depth, b),
-                Write(Space),
-                Write(Fixed(Sign::EndIf)),
-            ],
-        ),
-        Row::Apply(f, k, a) => push(
-            stack,
-            &[
-                Operand(depth, f),
-                Write(Fixed(Sign::Open)),
-                Arguments(depth, k, a),
-                Write(Fixed(Sign::Close)),
-            ],
-        ),
-        Row::Tuple(k, a, b) => push(
-            stack,
-            &[
-                Write(Fixed(Sign::Open)),
-                Print(depth, a),
-                Write(Fixed(Sign::Comma)),
-                Write(Space),
-                Arguments(depth, k, b),
-                Write(Fixed(Sign::Close)),
-            ],
-        ),
-        Row::Part(a, i) => push(
-            stack,
-            &[
-                Operand(depth, a),
-                Write(Fixed(Sign::Backquote)),
-                Write(Number(i)),
-            ],
-        ),
-        Row::TaggedTuple(k, a, b) => push(
-            stack,
-            &[
-                Write(Fixed(Sign::Open)),
-                Write(Number(k)),
-                Write(Fixed(Sign::Semicolon)),
-                Write(Space),
-                Print(depth, a),
-                Write(Fixed(Sign::Comma)),
-                Write(Space),
-                Print(depth, b),
-                Write(Fixed(Sign::Close)),
-            ],
-        ),
-        Row::Rest(a) => push(
-            stack,
-            &[
-                Operand(depth, a),
-                Write(Fixed(Sign::Backquote)),
-                Write(Fixed(Sign::Rest)),
-            ],
-        ),
-        Row::Boolean => push(stack, &[Write(Fixed(Sign::Bool))]),
-        Row::SubType(a, p) => push(
-            stack,
-            &[
-                Write(Fixed(Sign::OpenBrace)),
-                Write(Bound(depth + 1)),
-                Write(Fixed(Sign::Colon)),
-                Write(Space),
-                Print(depth, a),
-                Write(Space),
-                Write(Fixed(Sign::Bar)),
-                Write(Space),
-                Print(depth + 1, p),
-                Write(Fixed(Sign::CloseBrace)),
-            ],
-        ),
-        Row::FunType(a, b) => push(
-            stack,
-            &[
-                Write(Fixed(Sign::OpenBracket)),
-                Binding(depth + 1, b),
-                Print(depth, a),
-                Write(Space),
-                Write(Fixed(Sign::Arrow)),
-                Write(Space),
-                Print(depth + 1, b),
-                Write(Fixed(Sign::CloseBracket)),
-            ],
-        ),
-        Row::TupleType(k, a, b) => push(
-            stack,
-            &[
-                Write(Fixed(Sign::OpenBracket)),
-                Binding(depth + 1, b),
-                Print(depth, a),
-                Write(Fixed(Sign::Comma)),
-                Write(Space),
-                Components(depth + 1, k, b),
-                Write(Fixed(Sign::CloseBracket)),
-            ],
-        ),
-        Row::TaggedType(k, a, b) => push(
-            stack,
-            &[
-                Write(Fixed(Sign::OpenBracket)),
-                Write(Number(k)),
-                Write(Fixed(Sign::Semicolon)),
-                Write(Space),
-                Binding(depth + 1, b),
-                Print(depth, a),
-                Write(Fixed(Sign::Comma)),
-                Write(Space),
-                Print(depth + 1, b),
-                Write(Fixed(Sign::CloseBracket)),
-            ],
-        ),
     }
 }
 

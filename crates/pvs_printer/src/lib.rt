@@ -4,6 +4,7 @@
 mod expand;
 mod printing;
 mod row;
+mod row_tasks;
 mod shapes;
 mod tasks;
 mod words;

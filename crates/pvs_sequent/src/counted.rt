@@ -82,6 +82,13 @@ impl CountedIds {
         self.list.len()
     }
 
+    /// The numbers.
+    pub(crate) fn list(&self) -> &IdList
+        ensures { result.now ≡ self.now }
+    {
+        &self.list
+    }
+
     /// The number at an index, counted from 0, or None past the end.
     pub(crate) fn get(&self, at: usize) -> Option<Id>
         ensures { result ≡ slice_get self.now at }

@@ -45,6 +45,27 @@ impl Sequent {
         })
     }
 
+    /// The types of the variables, the last one first.
+    pub fn variables(&self) -> &IdList
+        ensures { result.now ≡ self.now.variables }
+    {
+        &self.variables
+    }
+
+    /// The antecedents, the first one first.
+    pub fn antecedents(&self) -> &IdList
+        ensures { result.now ≡ self.now.antecedents }
+    {
+        self.sides.antecedents()
+    }
+
+    /// The consequents, the first one first.
+    pub fn consequents(&self) -> &IdList
+        ensures { result.now ≡ self.now.consequents }
+    {
+        self.sides.consequents()
+    }
+
     /// The formula at a place, or None where there is none.
     pub fn formula_at(&self, place: Place) -> Option<Id>
         ensures { (s : Stored) → IsSequent s self.now → IsFormula s (formula_at (sequent_at s self.now) place) result }

@@ -4,6 +4,7 @@ ghost use Rattle.std.specs.Prelude.{◌≡◌, ◌<◌, ℕ, [], ◌∷◌, leng
 ghost use Rattle.std.specs.List.{list_any};
 
 use crate::counted::CountedIds;
+use crate::list::IdList;
 use pvs_terms::Id;
 use std::alloc::{AllocError, Global};
 use std::marker::Model;
@@ -44,6 +45,20 @@ impl Sides {
             consequents: CountedIds::new(alloc),
             shared: 0,
         }
+    }
+
+    /// The antecedents, the first one first.
+    pub(crate) fn antecedents(&self) -> &IdList
+        ensures { result.now ≡ self.now.antecedents }
+    {
+        self.antecedents.list()
+    }
+
+    /// The consequents, the first one first.
+    pub(crate) fn consequents(&self) -> &IdList
+        ensures { result.now ≡ self.now.consequents }
+    {
+        self.consequents.list()
     }
 
     /// The antecedent at an index, counted from 0, or None past the end.

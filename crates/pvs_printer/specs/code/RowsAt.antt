@@ -1,6 +1,5 @@
 -- What the rows of the code stand for.
 use Rattle.std.specs.Prelude.{ℕ, Option, Some, None, List, [], ◌∷◌}
-use Rattle.pvs_terms.specs.Tree as t
 use Rattle.pvs_terms.specs.Tree.{Tree}
 use Rattle.pvs_terms.specs.Stored.{Stored, tree_at, ref_at, IsNode, IsRef}
 use Rattle.pvs_printer.specs.Row as table

@@ -1,4 +1,4 @@
-use Rattle.std.proofs.Common.{◌≡◌, sym, subst, OnOk}
+use Rattle.std.proofs.Common.{sym, subst, OnOk}
 use Rattle.pvs_printer.specs.code.Tasks.{expand}
 use Rattle.pvs_printer.specs.code.TasksAt.{Pushes, task_at}
 use Rattle.pvs_printer.proofs.PushLaws.{print_depth, components_depth}

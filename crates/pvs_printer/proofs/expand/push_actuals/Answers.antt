@@ -1,7 +1,6 @@
-use Rattle.std.proofs.Common.{◌≡◌, sym, ap, ◌∙◌, subst, refl, length, ◌<◌, slice_index_or}
+use Rattle.std.proofs.Common.{length}
 use Rattle.pvs_terms.specs.Tree.{ref_actuals}
-use Rattle.pvs_terms.specs.Stored.{tree_at, ref_at, text_at, trees_at}
-use Rattle.std.proofs.Common.{arith}
+use Rattle.pvs_terms.specs.Stored.{ref_at}
 use Rattle.pvs_printer.specs.code.Tasks.{actual_tasks}
 use Rattle.pvs_printer.specs.code.TasksAt.{trees_from}
 use Rattle.pvs_printer.proofs.PushLaws.{none_tasks, last_tasks, more_tasks, below_at}

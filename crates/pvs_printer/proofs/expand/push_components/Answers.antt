@@ -1,6 +1,4 @@
-use Rattle.std.proofs.Common.{◌≡◌, sym, ap, ◌∙◌, subst, refl, length, ◌<◌, slice_index_or}
-use Rattle.pvs_terms.specs.Tree.{ref_actuals}
-use Rattle.pvs_terms.specs.Stored.{tree_at, ref_at, text_at, trees_at}
+use Rattle.pvs_terms.specs.Stored.{tree_at}
 use Rattle.pvs_printer.specs.code.Steps.{component_list}
 use Rattle.pvs_printer.specs.code.Tasks.{component_tasks}
 use Rattle.pvs_printer.proofs.PushLaws.{more_components}

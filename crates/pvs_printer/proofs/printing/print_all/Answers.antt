@@ -1,4 +1,4 @@
-use Rattle.std.proofs.Common.{◌≡◌, sym, ap, ◌∙◌, refl, [], append-nil}
+use Rattle.std.proofs.Common.{sym, refl, [], append-nil}
 use Rattle.pvs_terms.specs.Stored.{text_at}
 use Rattle.pvs_instantiate.specs.InstancesView.{development}
 use Rattle.pvs_printer.specs.Names.{names_from}

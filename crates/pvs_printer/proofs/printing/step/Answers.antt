@@ -1,9 +1,6 @@
-use Rattle.std.proofs.Common.{◌≡◌, sym, ap, ◌∙◌, refl, [], append-nil}
 use Rattle.pvs_terms.specs.Stored.{text_at}
 use Rattle.pvs_instantiate.specs.InstancesView.{development}
 use Rattle.pvs_printer.specs.Names.{names_from}
-use Rattle.pvs_printer.specs.code.Tasks.{left_bytes}
-use Rattle.pvs_printer.specs.code.TasksAt.{tasks_at}
 use Rattle.pvs_printer.proofs.LoopLaws.{step_expands_at}
 use Rattle.pvs_printer.proofs.printing.step.Goals as goal
 

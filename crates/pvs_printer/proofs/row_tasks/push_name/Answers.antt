@@ -1,9 +1,8 @@
-use Rattle.std.proofs.Common.{◌≡◌, sym, ap, ◌∙◌, subst, refl, length, ◌<◌, slice_index_or}
-use Rattle.pvs_terms.specs.Tree.{ref_actuals}
-use Rattle.pvs_terms.specs.Stored.{tree_at, ref_at, text_at, trees_at}
+use Rattle.std.proofs.Common.{sym, ◌∙◌}
+use Rattle.pvs_terms.specs.Stored.{ref_at, text_at}
 use Rattle.pvs_printer.specs.code.Tasks.{ref_tasks}
 use Rattle.pvs_printer.proofs.PushLaws.{instance_tasks}
-use Rattle.pvs_printer.proofs.expand.push_name.Goals as goal
+use Rattle.pvs_printer.proofs.row_tasks.push_name.Goals as goal
 
 pub returns-else-is_empty : goal.returns-else-is_empty
 returns-else-is_empty c =

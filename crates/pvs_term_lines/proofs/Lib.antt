@@ -1,0 +1,3 @@
+pub mod AddLaws
+pub mod LineLaws
+pub mod Examples
