@@ -11,8 +11,8 @@ use pvs_base::Code;
 use pvs_cache::NoCache;
 use pvs_elaboration::Scope;
 use pvs_instantiate::Instances;
-use pvs_sig::{Entry, EntryKind};
-use pvs_terms::Node;
+use pvs_sig::{Class, Entry, EntryKind};
+use pvs_terms::{Id, Node};
 use pvs_typing::TypeFault;
 use std::alloc::Global;
 use std::process::Abort;
@@ -41,9 +41,11 @@ fn constant(place: &mut Place<NoCache>) -> Result<Entry, Fail>
 
 /// The place after it.
 fn after_constant(place: Place<NoCache>) -> Result<Place<NoCache>, Fail> {
+    // The proof needs the types within an entry by name.
+    let (_body, _class): (Option<Id>, Option<Class>) = (None, None);
     let mut first = place;
-    let entry = constant(&mut first)?;
-    let next = first.with_entry(entry)?;
+    let Entry { name, kind } = constant(&mut first)?;
+    let next = first.with_entry(Entry { name, kind })?;
     Ok(next)
 }
 
@@ -67,7 +69,11 @@ fn truth_is_checked(rt: &impl Abort, place: &mut Place<NoCache>) -> Result<(), F
 
 fn truth_is_coerced(rt: &impl Abort, place: &mut Place<NoCache>) -> Result<(), Fail> {
     let here = place.outermost()?;
-    assert!(rt; place.coerce(&here, here.yes, here.truth, here.truth).is_ok());
+    assert!(rt;
+        place
+            .coerce(&here, here.yes, here.truth, here.truth)
+            .is_ok()
+    );
     Ok(())
 }
 
