@@ -12,7 +12,7 @@ use Rattle.pvs_syntax.specs.declared.expression.Actual.TheFolds.{fold-roll-Expr,
 use Rattle.pvs_syntax.specs.declared.unit.FormulaWord.TheVariants as formula_word
 use Rattle.pvs_parser.specs.Text.{IsAnswer}
 use Rattle.pvs_terms.specs.Tree.{Own, Const}
-use Rattle.pvs_sem.specs.Truth.{Interpretation}
+use Rattle.pvs_sem.specs.Truth.{TruthAssignment}
 use Rattle.pvs_theory.specs.Forms as forms
 use Rattle.pvs_theory.specs.Entries.{Entry, Constant, Constants, Formula, Placed, core, entries_after, entries_of, named, named_constant, out_of_profile, resolve}
 use Rattle.pvs_base.specs.Answers.{◌>>=◌}
@@ -75,7 +75,7 @@ accepted = ap (λ (b : Bool). if not b then Err (out_of_profile small.name.pos) 
 
 -- ---- Its lemma is printed open, and is FALSE where every constant is.
 
-abbrev nothing : Interpretation
+abbrev nothing : TruthAssignment
 nothing r = false
 
 no_axiom : Fits nothing entries 1

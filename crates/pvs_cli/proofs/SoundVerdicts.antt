@@ -1,4 +1,4 @@
--- What is proved is true: a lemma that a proof proves is TRUE in every interpretation.
+-- What is proved is true: a lemma that a proof proves is TRUE under every truth assignment.
 use Rattle.std.proofs.Common.{◌≡◌, ◌∙◌, refl, ap, ℕ, Bool, true, false, ◌⊎◌, inl, inr, List, [], ◌∷◌, ◌++◌, Option, Some, None, Result, Ok, Err}
 use Rattle.std.specs.List.{list_any}
 use Rattle.std.proofs.lemmas.Bool.{or_cases}
@@ -6,35 +6,28 @@ use Rattle.pvs_base.specs.declared.code.Fault.{Fault}
 use Rattle.pvs_syntax.specs.declared.unit.Proof.{Proof}
 use Rattle.pvs_script.specs.declared.tree.Script.{Script}
 use Rattle.pvs_terms.specs.Tree.{Tree, Ref}
-use Rattle.pvs_sem.specs.Truth.{Interpretation, truth}
-use Rattle.pvs_sequent.specs.Truth.{IsTrueSequent}
+use Rattle.pvs_sem.specs.Truth.{TruthAssignment, truth}
+use Rattle.pvs_sequent.specs.Sequents.{goal}
+use Rattle.pvs_sequent.proofs.GoalLaws.{true_goal}
 use Rattle.pvs_replay.specs.Replaying.{Outcome, Proved, Open, Refused}
 use Rattle.pvs_replay.proofs.SoundReplay.{logic_sound}
 use Rattle.pvs_theory.specs.Names.{FormulaName, is_listed, is_same, named_by}
 use Rattle.pvs_theory.specs.Theories.{Part, Accepted, Rejected, Proving}
-use Rattle.pvs_cli.specs.Verdicts.{Scripts, goal, lemma_in, proof_outcome, script_outcome, verdict}
+use Rattle.pvs_cli.specs.Verdicts.{Scripts, lemma_in, proof_outcome, script_outcome, verdict}
 use Rattle.pvs_cli.specs.Outcomes.{ProofOutcome, names_in, outcomes_after, outcomes_of, part_outcome, proves}
 use Rattle.pvs_theory.proofs.IndexLaws.{same_formula}
 
--- TRUE in every interpretation
+-- TRUE under every truth assignment
 abbrev pub IsValid : Tree → Type 0
-IsValid t = (m : Interpretation) → truth m t ≡ true
+IsValid t = (v : TruthAssignment) → truth v t ≡ true
 
--- a name that the parts have a lemma for, whose formula is TRUE in every interpretation
+-- a name that the parts have a lemma for, whose formula is TRUE under every truth assignment
 abbrev pub IsValidLemma : List Part → FormulaName → Type 0
 IsValidLemma parts n = (t : Tree) × (lemma_in parts n ≡ Some t) × IsValid t
 
--- the formula of a goal that is a true sequent
-pub goal_sound : (m : Interpretation) (t : Tree) → IsTrueSequent m (goal t) → truth m t ≡ true
-goal_sound m t h = go (or_cases (truth m t) false (h refl))
-  where
-    go : (truth m t ≡ true) ⊎ (false ≡ true) → truth m t ≡ true
-    go (inl e) = e
-    go (inr e) = cc
-
 -- the formula of a goal that a script proves
 pub script_sound : (t : Tree) (r : Result Script Fault) (cited uses : List Ref) → script_outcome (goal t) r ≡ Proved cited uses → IsValid t
-script_sound t (Ok x) cited uses h = λ m. goal_sound m t (logic_sound m x (goal t) cited uses h)
+script_sound t (Ok x) cited uses h = λ v. true_goal v t (logic_sound v x (goal t) cited uses h)
 script_sound t (Err f) cited uses h = cc
 
 -- a proof that proves has a formula, and it is TRUE

@@ -8,7 +8,7 @@ use Rattle.pvs_syntax.specs.declared.unit.FormulaWord.TheVariants as formula_wor
 use Rattle.pvs_script.specs.declared.tree.Script.{Script}
 use Rattle.pvs_script.specs.Faults.{IsScriptAnswer}
 use Rattle.pvs_terms.specs.Tree.{Tree}
-use Rattle.pvs_sequent.specs.Sequents.{Sequent}
+use Rattle.pvs_sequent.specs.Sequents.{Sequent, goal}
 use Rattle.pvs_replay.specs.Logic.{logic_effect}
 use Rattle.pvs_replay.specs.Replaying.{Outcome, Refused, replay}
 use Rattle.pvs_theory.specs.Names.{FormulaName, is_listed, named_by}
@@ -46,10 +46,6 @@ lemma_in [] n = None
 lemma_in (p ∷ ps) n = option_or (part_lemma p n) (lemma_in ps n)
 
 -- ---- Its verdict.
-
--- the sequent that is to be proved of a formula
-abbrev pub goal : Tree → Sequent
-goal t = record { variables = []; antecedents = []; consequents = t ∷ [] }
 
 -- the outcome of a script on a sequent, or the first fault of the script
 abbrev pub script_outcome : Sequent → Result Script Fault → Outcome

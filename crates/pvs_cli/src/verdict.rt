@@ -13,7 +13,8 @@ ghost use Rattle.pvs_theory.specs.code.Shown.{AreEntriesOf, ArePartsOf, IsEntryO
 ghost use Rattle.pvs_theory.specs.Theories.{Accepted};
 ghost use Rattle.pvs_theory.specs.Theories as spec;
 ghost use Rattle.pvs_cli.specs.code.Shown.{summary};
-ghost use Rattle.pvs_cli.specs.Verdicts.{goal, part_lemma, script_outcome, verdict};
+ghost use Rattle.pvs_sequent.specs.Sequents.{goal};
+ghost use Rattle.pvs_cli.specs.Verdicts.{part_lemma, script_outcome, verdict};
 
 use crate::outcome::{Outcome, summary};
 use pvs_base::{Code, Fault};
