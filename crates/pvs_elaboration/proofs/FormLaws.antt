@@ -1,5 +1,8 @@
 -- What is left of each form, where the store has grown.
-use Rattle.std.proofs.Common.{◌≡◌, ℕ, refl}
+use Rattle.std.proofs.Common.{◌≡◌, ℕ, suc, refl, ◌∙◌, ap}
+use Rattle.std.proofs.Math.Path.{fun_ext}
+use Rattle.pvs_terms.specs.Tree.{Tree, Snd}
+use Rattle.pvs_terms.specs.Stored.{tree_at}
 use Rattle.pvs_elaboration.specs.declared.binder.Binding.{Binding}
 use Rattle.pvs_elaboration.specs.declared.lets.Definition.{Definition}
 use Rattle.pvs_elaboration.specs.declared.lets.LetRow.{LetRow}
@@ -16,11 +19,22 @@ use Rattle.pvs_elaboration.specs.declared.tuples.ProductRow.TheVariants as produ
 use Rattle.pvs_elaboration.specs.declared.parts.Projection.{Projection}
 use Rattle.pvs_elaboration.specs.declared.parts.PartRow.{PartRow}
 use Rattle.pvs_elaboration.specs.declared.parts.PartRow.TheVariants as part
-use Rattle.pvs_elaboration.specs.Known.{Sources, Known, Grows, Site, AreKnownNumbers}
+use Rattle.pvs_elaboration.specs.declared.several.Variables.{Variables}
+use Rattle.pvs_elaboration.specs.declared.several.SeveralRow.{SeveralRow}
+use Rattle.pvs_elaboration.specs.declared.several.SeveralRow.TheVariants as several
+use Rattle.pvs_elaboration.specs.declared.several.NamesRow.{NamesRow}
+use Rattle.pvs_elaboration.specs.declared.several.NamesRow.TheVariants as names
+use Rattle.pvs_elaboration.specs.declared.value.Mode.{Mode}
+use Rattle.pvs_elaboration.specs.declared.value.Mode.TheVariants as mode
+use Rattle.pvs_elab.specs.Phrase.{Phrase}
+use Rattle.pvs_elaboration.specs.Known.{Sources, phrase_at, word_at, Known, Grows, Site, local_site, parts_site, AreKnownNumbers}
+use Rattle.pvs_elaboration.specs.Meanings.{on_term, on_done}
 use Rattle.pvs_elaboration.specs.Lets.{let_answer, let_numbers}
 use Rattle.pvs_elaboration.specs.Subtypes.{subtype_answer, subtype_numbers, predicate_answer, predicate_numbers}
 use Rattle.pvs_elaboration.specs.Tuples.{tuple_answer, tuple_numbers, product_answer, product_numbers}
 use Rattle.pvs_elaboration.specs.Parts.{part_answer, part_numbers}
+use Rattle.pvs_elaboration.specs.Several.{words_at, several_answer}
+use Rattle.pvs_elaboration.specs.Machine.{asked_at, mode_numbers, names_answer, names_numbers}
 use Rattle.pvs_elaboration.proofs.KnownLaws.{tree_stays}
 
 pub let_stays : {a b : Known} (z : Site) (text : Sources) (f : LetRow) (o : Definition) → Grows a b → AreKnownNumbers a (let_numbers f) → let_answer z b.stored text f o ≡ let_answer z a.stored text f o
@@ -62,3 +76,29 @@ part_stays z text (part.Head m i t) o g n = rw (tree_stays g n.0) refl
 part_stays z text (part.Others m i t e) o g n = rw (tree_stays g n.0, tree_stays g n.1.0) refl
 part_stays z text (part.Rest m i f e) o g n = rw (tree_stays g n.0, tree_stays g n.1.0) refl
 part_stays z text (part.Next m i u) o g n = rw (tree_stays g n.0) refl
+
+pub several_stays : {a b : Known} (z : Site) (text : Sources) (f : SeveralRow) (o : Variables) → Grows a b → several_answer z b.stored text f o ≡ several_answer z a.stored text f o
+several_stays z text several.Lambda o g = refl
+several_stays z text several.Predicate o g = refl
+several_stays z text several.Function o g = refl
+
+-- what a phrase answers
+asked_stays : {a b : Known} (z : Site) (text : Sources) (m : Mode) (e : Phrase) → Grows a b → AreKnownNumbers a (mode_numbers m) → asked_at z b.stored text m e ≡ asked_at z a.stored text m e
+asked_stays z text mode.Infer e g n = refl
+asked_stays z text (mode.Check u) e g n = rw (tree_stays g n.0) refl
+asked_stays z text (mode.CheckAt at u) e g n = rw (tree_stays g n.0) refl
+asked_stays z text mode.Formed e g n = refl
+asked_stays z text mode.Predicate e g n = refl
+
+pub names_stay : {a b : Known} (z : Site) (text : Sources) (f : NamesRow) (body : ℕ) → Grows a b → AreKnownNumbers a (names_numbers f) → names_answer z b.stored text f body ≡ names_answer z a.stored text f body
+names_stay {a} {b} z text (names.Tuple t i n m) body g k =
+    ap (λ (u : Tree). on_done (asked_at (parts_site (words_at text i (suc n)) u z) b.stored text m (phrase_at text body))) (tree_stays g k.0)
+    ∙ ap on_done (asked_stays (parts_site (words_at text i (suc n)) (tree_at a.stored t) z) text m (phrase_at text body) g k.1)
+names_stay {a} {b} z text (names.First t i n m) body g k =
+    let there : Tree → Tree → Site = λ u f. parts_site (words_at text (suc i) (suc n)) (Snd (suc (suc n)) u) (local_site (word_at text i) f z) in
+    ap (λ (u : Tree). on_term (λ f. asked_at (there u f) b.stored text m (phrase_at text body))) (tree_stays g k.0)
+    ∙ ap on_term (fun_ext (λ f. asked_stays (there (tree_at a.stored t) f) text m (phrase_at text body) g k.1))
+names_stay {a} {b} z text (names.Second f i n m) body g k =
+    let there : Tree → Tree → Site = λ f u. parts_site (words_at text (suc i) (suc n)) u (local_site (word_at text i) f z) in
+    ap (λ (w : Tree). on_term (λ u. asked_at (there w u) b.stored text m (phrase_at text body))) (tree_stays g k.0)
+    ∙ ap on_term (fun_ext (λ u. asked_stays (there (tree_at a.stored f) u) text m (phrase_at text body) g k.1))

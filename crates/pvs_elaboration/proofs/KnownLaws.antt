@@ -11,7 +11,7 @@ use Rattle.pvs_subst.specs.Replace.{lift}
 use Rattle.pvs_subst.specs.Contexts.{Assumptions, Variable, Hypothesis, context_at}
 use Rattle.pvs_subst.specs.declared.context.Assumed.{Assumed}
 use Rattle.pvs_subst.specs.declared.context.Assumed.TheVariants as assumed
-use Rattle.pvs_subst.proofs.ReplaceLaws.{lift-lift}
+use Rattle.pvs_subst.proofs.ReplaceLaws.{lift-lift, lift-none}
 use Rattle.pvs_sig.specs.Lookups.{IsOrdered}
 use Rattle.pvs_types.specs.Limits.{is_within_limits}
 use Rattle.pvs_types.proofs.LimitsLaws.{limits_decided}
@@ -24,7 +24,7 @@ use Rattle.pvs_elaboration.specs.declared.fault.ElabFault.{ElabFault}
 use Rattle.pvs_elaboration.specs.declared.fault.ElabFault.TheVariants as elab_fault
 use Rattle.pvs_elaboration.specs.declared.here.Local.{Local}
 use Rattle.pvs_elaboration.specs.declared.here.Here.{Here}
-use Rattle.pvs_elaboration.specs.Known.{Sources, word_at, Known, Grows, IsHere, IsUnder, IsBelow, IsTypeOf, IsTermOf, AreLocals, AreKnownNumbers, local_at, locals_at, site_in, hypothesis_site, variable_site, Failed}
+use Rattle.pvs_elaboration.specs.Known.{Sources, word_at, Known, Grows, IsHere, IsUnder, IsBelow, IsTypeOf, IsTermOf, AreLocals, AreKnownNumbers, local_at, locals_at, site_in, hypothesis_site, variable_site, unnamed_site, local_site, IsUnnamed, IsNamed, Failed}
 
 abbrev made_if : Bool → Pos → Tree → Answer Tree
 made_if b at t = if b then Ok t else Err (record { pos = at; code = TooLarge })
@@ -152,6 +152,54 @@ pub variable_site_stays : {k : Known} {h : Here} {x a : ℕ} {i : Here} → IsHe
 variable_site_stays {k} {h} {x} {a} {i} n t b = record {
   locals = rw (b.depth, b.locals) (named_stay k h.depth x h.variable h.locals n.variable n.locals);
   context = subst (IsKnownContext k.stored k.declares) (sym b.context) (t, n.context);
+  ordered = n.ordered;
+  truth = subst (IsTypeOf k) (sym b.truth) n.truth;
+  yes = subst (IsTermOf k) (sym b.yes) n.yes;
+  no = subst (IsTermOf k) (sym b.no) n.no;
+  variable = subst (IsTermOf k) (sym b.variable) n.variable;
+  is_truth = ap (tree_at k.stored) b.truth ∙ n.is_truth;
+  is_yes = ap (tree_at k.stored) b.yes ∙ n.is_yes;
+  is_no = ap (tree_at k.stored) b.no ∙ n.is_no;
+  is_variable = ap (tree_at k.stored) b.variable ∙ n.is_variable;
+}
+
+-- Under a variable without a name, and with a local name for a term.
+
+pub unnamed_site_is : (k : Known) (t : Sources) {h : Here} {a : ℕ} {i : Here} → IsHere k h → IsUnnamed h a i → site_in k t i ≡ unnamed_site (tree_at k.stored a) (site_in k t h)
+unfolding site_in
+unnamed_site_is k t {h} {a} {i} n b = rw (b.context, b.depth, b.locals, lifted_locals_at k t h.depth h.locals n.locals) refl
+
+pub unnamed_site_stays : {k : Known} {h : Here} {a : ℕ} {i : Here} → IsHere k h → IsTypeOf k a → IsUnnamed h a i → IsHere k i
+unnamed_site_stays {k} {h} {a} {i} n t b = record {
+  locals = rw (b.depth, b.locals) (variable_locals k h.depth h.locals n.locals);
+  context = subst (IsKnownContext k.stored k.declares) (sym b.context) (t, n.context);
+  ordered = n.ordered;
+  truth = subst (IsTypeOf k) (sym b.truth) n.truth;
+  yes = subst (IsTermOf k) (sym b.yes) n.yes;
+  no = subst (IsTermOf k) (sym b.no) n.no;
+  variable = subst (IsTermOf k) (sym b.variable) n.variable;
+  is_truth = ap (tree_at k.stored) b.truth ∙ n.is_truth;
+  is_yes = ap (tree_at k.stored) b.yes ∙ n.is_yes;
+  is_no = ap (tree_at k.stored) b.no ∙ n.is_no;
+  is_variable = ap (tree_at k.stored) b.variable ∙ n.is_variable;
+}
+
+lifted_by_none : (t : Tree) (d : ℕ) → lift t (d - d) 0 ≡ t
+lifted_by_none t d =
+    let none : d - d ≡ 0 = omega arith in
+    rw none (lift-none t 0)
+
+pub local_site_is : (k : Known) (t : Sources) {h : Here} {x u : ℕ} {i : Here} → IsNamed h x u i → site_in k t i ≡ local_site (word_at t x) (tree_at k.stored u) (site_in k t h)
+unfolding site_in
+local_site_is k t {h} {x} {u} {i} b = rw (b.context, b.depth, b.locals, lifted_by_none (tree_at k.stored u) h.depth) refl
+
+local_stays : (k : Known) (d x u : ℕ) (ls : List Local) → IsTermOf k u → AreLocals k d ls → AreLocals k d (record { name = x; term = u; at = d } ∷ ls)
+local_stays k d x u ls n h = ((n, omega arith), h)
+
+pub local_site_stays : {k : Known} {h : Here} {x u : ℕ} {i : Here} → IsHere k h → IsTermOf k u → IsNamed h x u i → IsHere k i
+local_site_stays {k} {h} {x} {u} {i} n t b = record {
+  locals = rw (b.depth, b.locals) (local_stays k h.depth x u h.locals t n.locals);
+  context = subst (IsKnownContext k.stored k.declares) (sym b.context) n.context;
   ordered = n.ordered;
   truth = subst (IsTypeOf k) (sym b.truth) n.truth;
   yes = subst (IsTermOf k) (sym b.yes) n.yes;

@@ -14,3 +14,4 @@ pub mod LetLaws
 pub mod SubtypeLaws
 pub mod TupleLaws
 pub mod PartLaws
+pub mod SeveralLaws

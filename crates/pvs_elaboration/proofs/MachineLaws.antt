@@ -47,8 +47,8 @@ use Rattle.pvs_elaboration.specs.Apply.{apply_answer, apply_numbers}
 use Rattle.pvs_elaboration.specs.Binder.{binder_answer, binder_numbers}
 use Rattle.pvs_elaboration.specs.Equal.{equal_answer, equal_numbers}
 use Rattle.pvs_elaboration.specs.Machine.{frame_answer, frame_numbers, control_answer, entrance_site, entrance_numbers, next_answer, entries_answer, machine_answer, AreKnownEntries, IsKnownNext, IsMachine, IsEntered, IsAdded, IsKnownEntry, Follows, Goes, Finds}
-use Rattle.pvs_elaboration.proofs.KnownLaws.{grows_none, grows_trans, tree_stays, site_kept, here_stays, numbers_stay, hypothesis_site_is, hypothesis_site_stays, variable_site_is, variable_site_stays}
-use Rattle.pvs_elaboration.proofs.FormLaws.{let_stays, subtype_stays, predicate_stays, tuple_stays, product_stays, part_stays}
+use Rattle.pvs_elaboration.proofs.KnownLaws.{grows_none, grows_trans, tree_stays, site_kept, here_stays, numbers_stay, hypothesis_site_is, hypothesis_site_stays, variable_site_is, variable_site_stays, unnamed_site_is, unnamed_site_stays, local_site_is, local_site_stays}
+use Rattle.pvs_elaboration.proofs.FormLaws.{let_stays, subtype_stays, predicate_stays, tuple_stays, product_stays, part_stays, several_stays, names_stay}
 
 -- One step of the definition, and then another: the value of the first goes to a frame.
 
@@ -168,6 +168,8 @@ frame_stays_at z text (frame.Predicate f start at) g n = predicate_stays z text 
 frame_stays_at z text (frame.Tuple f o) g n = tuple_stays z text f o g n
 frame_stays_at z text (frame.Product f k o) g n = product_stays z text f k o g n
 frame_stays_at z text (frame.Part f o) g n = part_stays z text f o g n
+frame_stays_at z text (frame.Several f o) g n = several_stays z text f o g
+frame_stays_at z text (frame.Names f body) g n = names_stay z text f body g n
 
 pub frame_stays : {a b : Known} (text : Sources) (h : Here) (f : Frame) → Grows a b → IsHere a h → AreKnownNumbers a (frame_numbers f)
     → frame_answer (site_in b text h) b.stored text f ≡ frame_answer (site_in a text h) a.stored text f
@@ -197,11 +199,15 @@ pub entered_here : {k : Known} (h i : Here) (es fs : List Entry) (e : Entrance) 
 entered_here h i es fs entrance.Here n m a = rw a.0 n
 entered_here h i es fs (entrance.Hypothesis p) n m a = hypothesis_site_stays n m.0 a.0
 entered_here h i es fs (entrance.Variable x t) n m a = variable_site_stays n m.0 a.0
+entered_here h i es fs (entrance.Unnamed t) n m a = unnamed_site_stays n m.0 a.0
+entered_here h i es fs (entrance.Local x t) n m a = local_site_stays n m.0 a.0
 
 pub entered_entries : {k : Known} (h i : Here) (es fs : List Entry) (e : Entrance) → IsHere k h → IsEntered h es e i fs → AreKnownEntries k (reverse es) → AreKnownEntries k (reverse fs)
 entered_entries h i es fs entrance.Here n a m = rw a.1 m
 entered_entries h i es fs (entrance.Hypothesis p) n a m = rw (a.1, reverse_end es (entry.Leave h)) (n, m)
 entered_entries h i es fs (entrance.Variable x t) n a m = rw (a.1, reverse_end es (entry.Leave h)) (n, m)
+entered_entries h i es fs (entrance.Unnamed t) n a m = rw (a.1, reverse_end es (entry.Leave h)) (n, m)
+entered_entries h i es fs (entrance.Local x t) n a m = rw (a.1, reverse_end es (entry.Leave h)) (n, m)
 
 -- what is answered there, and then here
 pub entered_answer : (k : Known) (text : Sources) (h i : Here) (es fs : List Entry) (e : Entrance) (f : Site → Answer Meaning) → IsHere k h → IsEntered h es e i fs
@@ -209,6 +215,8 @@ pub entered_answer : (k : Known) (text : Sources) (h i : Here) (es fs : List Ent
 entered_answer k text h i es fs entrance.Here f n a = rw (a.0, a.1) refl
 entered_answer k text h i es fs (entrance.Hypothesis p) f n a = rw (a.1, reverse_end es (entry.Leave h), hypothesis_site_is k text a.0) refl
 entered_answer k text h i es fs (entrance.Variable x t) f n a = rw (a.1, reverse_end es (entry.Leave h), variable_site_is k text n a.0) refl
+entered_answer k text h i es fs (entrance.Unnamed t) f n a = rw (a.1, reverse_end es (entry.Leave h), unnamed_site_is k text n a.0) refl
+entered_answer k text h i es fs (entrance.Local x t) f n a = rw (a.1, reverse_end es (entry.Leave h), local_site_is k text a.0) refl
 
 pub added_answer : (k : Known) (text : Sources) (m : Machine) (n : Next) (o : Machine) → IsMachine k m → IsAdded m n o
     → machine_answer k text o n.control ≡ (next_answer (site_in k text m.here) k.stored text n >>= entries_answer k text m.here (reverse m.entries.items))

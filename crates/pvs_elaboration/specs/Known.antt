@@ -15,7 +15,7 @@ use Rattle.pvs_typing.specs.Growth.{IsKnown, IsKnownContext, Keeps}
 use Rattle.pvs_elab.specs.Answer.{Answer}
 use Rattle.pvs_elab.specs.Phrase.{Phrase, Other}
 use Rattle.pvs_elab.specs.Names.{Names}
-use Rattle.pvs_elab.specs.Elab.{TypedTree, under_hypothesis, under_name}
+use Rattle.pvs_elab.specs.Elab.{TypedTree, parts_onto, under_hypothesis, under_name, under_variable}
 use Rattle.pvs_elab.specs.Elab as definition
 use Rattle.pvs_elaboration.specs.declared.fault.ElabFault.{ElabFault}
 use Rattle.pvs_elaboration.specs.declared.fault.ElabFault.TheVariants as elab_fault
@@ -138,6 +138,26 @@ pub record IsBelow (h : Here) (x a : ℕ) (i : Here) : Type 0 where
   pub variable : i.variable ≡ h.variable
   pub depth : i.depth ≡ suc h.depth
 
+-- under a variable of this type, without a name
+pub record IsUnnamed (h : Here) (a : ℕ) (i : Here) : Type 0 where
+  pub locals : i.locals ≡ h.locals
+  pub context : i.context.items ≡ assumed.Bind a ∷ h.context.items
+  pub truth : i.truth ≡ h.truth
+  pub yes : i.yes ≡ h.yes
+  pub no : i.no ≡ h.no
+  pub variable : i.variable ≡ h.variable
+  pub depth : i.depth ≡ suc h.depth
+
+-- the same place, with a local name for a term
+pub record IsNamed (h : Here) (x t : ℕ) (i : Here) : Type 0 where
+  pub locals : i.locals ≡ record { name = x; term = t; at = h.depth } ∷ h.locals
+  pub context : i.context.items ≡ h.context.items
+  pub truth : i.truth ≡ h.truth
+  pub yes : i.yes ≡ h.yes
+  pub no : i.no ≡ h.no
+  pub variable : i.variable ≡ h.variable
+  pub depth : i.depth ≡ h.depth
+
 -- the fault is that of the answer; being out of memory says nothing
 abbrev pub IsFault : {A : Type 0} → Answer A → ElabFault → Type 0
 IsFault r (elab_fault.At f) = r ≡ Err f
@@ -160,6 +180,18 @@ hypothesis_site p z = record { lookups = z.lookups; names = z.names; here = unde
 -- the site under a variable of this name and type
 abbrev pub variable_site : Text → Tree → Site → Site
 variable_site x a z = record { lookups = z.lookups; names = z.names; here = under_name x a z.here }
+
+-- the site under a variable without a name
+abbrev pub unnamed_site : Tree → Site → Site
+unnamed_site a z = record { lookups = z.lookups; names = z.names; here = under_variable [] a z.here }
+
+-- the site with a local name for a term
+abbrev pub local_site : Text → Tree → Site → Site
+local_site x t z = record { lookups = z.lookups; names = z.names; here = record { locals = record { name = x; term = t } ∷ z.here.locals; context = z.here.context } }
+
+-- the site with names for the parts of a tuple
+abbrev pub parts_site : List Text → Tree → Site → Site
+parts_site xs t z = record { lookups = z.lookups; names = z.names; here = record { locals = parts_onto z.here.locals t xs; context = z.here.context } }
 
 -- typing accepts, with this result
 abbrev pub Accepts : {A : Type 0} → Outcome A → A → Type 0

@@ -9,5 +9,6 @@ pub mod Lets
 pub mod Subtypes
 pub mod Tuples
 pub mod Parts
+pub mod Several
 pub mod Machine
 pub mod Listing

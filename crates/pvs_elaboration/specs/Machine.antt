@@ -1,8 +1,8 @@
 -- What a machine of frames answers.
-use Rattle.std.specs.Prelude.{◌≡◌, ◌-◌, ℕ, List, [], ◌∷◌, ◌++◌, reverse, Option, Some, None, Result, Ok, Err}
+use Rattle.std.specs.Prelude.{◌≡◌, ◌-◌, ℕ, suc, List, [], ◌∷◌, ◌++◌, reverse, Option, Some, None, Result, Ok, Err}
 use Rattle.pvs_base.specs.Answers.{◌>>=◌}
 use Rattle.pvs_base.specs.declared.place.Pos.{Pos}
-use Rattle.pvs_terms.specs.Tree.{Text, Tree, Const}
+use Rattle.pvs_terms.specs.Tree.{Text, Tree, Const, Snd}
 use Rattle.pvs_terms.specs.declared.shape.Sort.{Sort}
 use Rattle.pvs_terms.specs.declared.shape.Sort.TheVariants.{OfType, OfTerm}
 use Rattle.pvs_terms.specs.Stored.{Stored, tree_at}
@@ -30,8 +30,8 @@ use Rattle.pvs_elaboration.specs.declared.frame.Turn.{Turn}
 use Rattle.pvs_elaboration.specs.declared.frame.Turn.TheVariants as turn
 use Rattle.pvs_terms.specs.declared.node.Node.{Node}
 use Rattle.pvs_terms.specs.declared.node.Node.TheVariants as node
-use Rattle.pvs_elaboration.specs.Known.{Sources, phrase_at, place_in, word_at, Known, Grows, Site, site_in, hypothesis_site, variable_site, IsHere, AreKnownNumbers, IsUnder, IsBelow, Failed}
-use Rattle.pvs_elaboration.specs.Meanings.{Meaning, Typed, Term, Formed, meaning, value_numbers, typed_at, typed_answer, term_answer, formed_answer, done_answer, on_typed, on_term, on_formed}
+use Rattle.pvs_elaboration.specs.Known.{Sources, phrase_at, place_in, word_at, Known, Grows, Site, site_in, hypothesis_site, variable_site, IsHere, AreKnownNumbers, IsUnder, IsBelow, IsUnnamed, IsNamed, unnamed_site, local_site, parts_site, Failed}
+use Rattle.pvs_elaboration.specs.Meanings.{Meaning, Typed, Term, Formed, meaning, value_numbers, typed_at, typed_answer, term_answer, formed_answer, done_answer, on_typed, on_term, on_formed, on_done}
 use Rattle.pvs_elaboration.specs.Choice.{choice_answer, choice_numbers, not_answer, not_numbers}
 use Rattle.pvs_elaboration.specs.Names.{name_answer, name_numbers}
 use Rattle.pvs_elaboration.specs.Apply.{apply_answer, apply_numbers}
@@ -41,6 +41,9 @@ use Rattle.pvs_elaboration.specs.Lets.{let_answer, let_numbers}
 use Rattle.pvs_elaboration.specs.Subtypes.{subtype_answer, subtype_numbers, predicate_answer, predicate_numbers}
 use Rattle.pvs_elaboration.specs.Tuples.{tuple_answer, tuple_numbers, product_answer, product_numbers}
 use Rattle.pvs_elaboration.specs.Parts.{part_answer, part_numbers}
+use Rattle.pvs_elaboration.specs.declared.several.NamesRow.{NamesRow}
+use Rattle.pvs_elaboration.specs.declared.several.NamesRow.TheVariants as names
+use Rattle.pvs_elaboration.specs.Several.{words_at, several_answer}
 
 -- what a phrase answers
 abbrev pub asked_at : Site → Stored → Sources → Mode → Phrase → Answer Meaning
@@ -56,6 +59,17 @@ mode_numbers (mode.Check u) = (OfType, u) ∷ []
 mode_numbers (mode.CheckAt at u) = (OfType, u) ∷ []
 mode_numbers mode.Formed = []
 mode_numbers mode.Predicate = []
+
+-- What is left to name of the parts of a tuple, before a part of the text is asked.
+abbrev pub names_answer : Site → Stored → Sources → NamesRow → ℕ → Meaning → Answer Meaning
+names_answer z s text (names.Tuple t i n m) body = on_done (asked_at (parts_site (words_at text i (suc n)) (tree_at s t) z) s text m (phrase_at text body))
+names_answer z s text (names.First t i n m) body = on_term (λ f. asked_at (parts_site (words_at text (suc i) (suc n)) (Snd (suc (suc n)) (tree_at s t)) (local_site (word_at text i) f z)) s text m (phrase_at text body))
+names_answer z s text (names.Second f i n m) body = on_term (λ u. asked_at (parts_site (words_at text (suc i) (suc n)) u (local_site (word_at text i) (tree_at s f) z)) s text m (phrase_at text body))
+
+abbrev pub names_numbers : NamesRow → List (Sort × ℕ)
+names_numbers (names.Tuple t i n m) = (OfTerm, t) ∷ mode_numbers m
+names_numbers (names.First t i n m) = (OfTerm, t) ∷ mode_numbers m
+names_numbers (names.Second f i n m) = (OfTerm, f) ∷ mode_numbers m
 
 -- a term as one of a type
 abbrev pub coerced_at : Site → Pos → Pos → Tree → TypedTree → Answer Tree
@@ -79,6 +93,8 @@ frame_answer z s text (frame.Predicate f start at) = predicate_answer z s text f
 frame_answer z s text (frame.Tuple f o) = tuple_answer z s text f o
 frame_answer z s text (frame.Product f k o) = product_answer z s text f k o
 frame_answer z s text (frame.Part f o) = part_answer z s text f o
+frame_answer z s text (frame.Several f o) = several_answer z s text f o
+frame_answer z s text (frame.Names f body) = names_answer z s text f body
 
 abbrev pub frame_numbers : Frame → List (Sort × ℕ)
 frame_numbers frame.Same = []
@@ -97,27 +113,35 @@ frame_numbers (frame.Predicate f start at) = predicate_numbers f
 frame_numbers (frame.Tuple f o) = tuple_numbers f
 frame_numbers (frame.Product f k o) = product_numbers f
 frame_numbers (frame.Part f o) = part_numbers f
+frame_numbers (frame.Several f o) = []
+frame_numbers (frame.Names f body) = names_numbers f
 
 abbrev pub control_answer : Site → Stored → Sources → Control → Answer Meaning
 control_answer z s text (control.Ask p m) = asked_at z s text m (phrase_at text p)
 control_answer z s text (control.Coerce t large at u) = term_answer (coerced_at z (place_in text large) (place_in text at) (tree_at s u) (typed_at s t))
 control_answer z s text (control.Give v) = Ok (meaning s v)
+control_answer z s text (control.Use f v) = frame_answer z s text f (meaning s v)
 
 abbrev pub control_numbers : Control → List (Sort × ℕ)
 control_numbers (control.Ask p m) = mode_numbers m
 control_numbers (control.Coerce t large at u) = (OfTerm, t.tree) ∷ (OfType, t.ty) ∷ (OfType, u) ∷ []
 control_numbers (control.Give v) = value_numbers v
+control_numbers (control.Use f v) = value_numbers v ++ frame_numbers f
 
 -- the site that is entered
 abbrev pub entrance_site : Site → Stored → Sources → Entrance → Site
 entrance_site z s t entrance.Here = z
 entrance_site z s t (entrance.Hypothesis p) = hypothesis_site (tree_at s p) z
 entrance_site z s t (entrance.Variable x a) = variable_site (word_at t x) (tree_at s a) z
+entrance_site z s t (entrance.Unnamed a) = unnamed_site (tree_at s a) z
+entrance_site z s t (entrance.Local x u) = local_site (word_at t x) (tree_at s u) z
 
 abbrev pub entrance_numbers : Entrance → List (Sort × ℕ)
 entrance_numbers entrance.Here = []
 entrance_numbers (entrance.Hypothesis p) = (OfTerm, p) ∷ []
 entrance_numbers (entrance.Variable x a) = (OfType, a) ∷ []
+entrance_numbers (entrance.Unnamed a) = (OfType, a) ∷ []
+entrance_numbers (entrance.Local x u) = (OfTerm, u) ∷ []
 
 -- what is answered after a step
 abbrev pub next_answer : Site → Stored → Sources → Next → Answer Meaning
@@ -165,6 +189,8 @@ abbrev pub IsEntered : Here → List Entry → Entrance → Here → List Entry 
 IsEntered h es entrance.Here i fs = (i ≡ h) × (fs ≡ es)
 IsEntered h es (entrance.Hypothesis p) i fs = IsUnder h p i × (fs ≡ es ++ entry.Leave h ∷ [])
 IsEntered h es (entrance.Variable x a) i fs = IsBelow h x a i × (fs ≡ es ++ entry.Leave h ∷ [])
+IsEntered h es (entrance.Unnamed a) i fs = IsUnnamed h a i × (fs ≡ es ++ entry.Leave h ∷ [])
+IsEntered h es (entrance.Local x u) i fs = IsNamed h x u i × (fs ≡ es ++ entry.Leave h ∷ [])
 
 -- what follows a step is added
 abbrev pub IsAdded : Machine → Next → Machine → Type 0

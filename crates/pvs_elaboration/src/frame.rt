@@ -13,6 +13,7 @@ use crate::here::{Here, Typed};
 use crate::lets::{Definition, LetRow};
 use crate::names::NameRow;
 use crate::parts::{PartRow, Projection};
+use crate::several::{NamesRow, SeveralRow, Variables};
 use crate::subtypes::{PredicateRow, SubtypeRow};
 use crate::tuples::{Pair, ProductRow, TupleRow};
 use crate::value::{Mode, Value};
@@ -45,6 +46,9 @@ pub(crate) enum Frame {
     /// A type of tuples, with the number of components beyond two.
     Product(ProductRow, usize, Binding),
     Part(PartRow, Projection),
+    Several(SeveralRow, Variables),
+    /// With the part that is asked once all parts of the tuple have their names.
+    Names(NamesRow, usize),
 }
 
 /// What is done at a place of the text.
@@ -54,6 +58,8 @@ pub(crate) enum Control {
     /// A term as one of a type: the place of TooLarge, that of other faults, and the type.
     Coerce(Typed, usize, usize, Id),
     Give(Value),
+    /// A value is given to a frame.
+    Use(Frame, Value),
 }
 
 /// Where it is done.
@@ -63,6 +69,10 @@ pub(crate) enum Entrance {
     Hypothesis(Id),
     /// A variable of this name and type.
     Variable(usize, Id),
+    /// A variable of this type, without a name.
+    Unnamed(Id),
+    /// The same place, with a local name for a term.
+    Local(usize, Id),
 }
 
 /// What follows a step: what is done there, and then with its value here.

@@ -1,7 +1,7 @@
 //! Where an expression stands.
 
 ghost use Rattle.std.specs.Prelude.{◌≡◌, ◌∷◌, IfOk};
-ghost use Rattle.pvs_elaboration.specs.Known.{IsUnder, IsBelow};
+ghost use Rattle.pvs_elaboration.specs.Known.{IsUnder, IsBelow, IsNamed, IsUnnamed};
 
 use crate::fault::ElabFault;
 use pvs_subst::{Assumed, Context};
@@ -87,6 +87,55 @@ impl Here {
         Ok(Here {
             locals,
             context,
+            truth: self.truth,
+            yes: self.yes,
+            no: self.no,
+            variable: self.variable,
+            depth: self.depth,
+        })
+    }
+
+    /// The place under a variable of this type, without a name for it.
+    ///
+    /// Memory also where the number of variables is too great.
+    pub(crate) fn with_unnamed(&self, alloc: Global, ty: Id) -> Result<Here, ElabFault>
+        ensures { IfOk result (IsUnnamed self.now ty) }
+    {
+        if self.depth == u32::MAX {
+            return Err(ElabFault::Memory);
+        }
+        let locals = Items::from_slice(alloc, self.locals.as_slice())?;
+        let context = extended(alloc, Assumed::Bind(ty), &self.context)?;
+        Ok(Here {
+            locals,
+            context,
+            truth: self.truth,
+            yes: self.yes,
+            no: self.no,
+            variable: self.variable,
+            depth: self.depth + 1,
+        })
+    }
+
+    /// The same place, with a local name for a term.
+    pub(crate) fn with_local(
+        &self,
+        alloc: Global,
+        name: usize,
+        term: Id,
+    ) -> Result<Here, AllocError>
+        ensures { IfOk result (IsNamed self.now name term) }
+    {
+        let local = Local {
+            name,
+            term,
+            at: self.depth,
+        };
+        let locals = named(alloc, local, &self.locals)?;
+        let items = Items::from_slice(alloc, self.context.items.as_slice())?;
+        Ok(Here {
+            locals,
+            context: Context { items },
             truth: self.truth,
             yes: self.yes,
             no: self.no,

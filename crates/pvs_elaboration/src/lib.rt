@@ -16,6 +16,7 @@ mod making;
 mod names;
 mod parts;
 mod scope;
+mod several;
 mod steps;
 mod subtypes;
 mod tuples;

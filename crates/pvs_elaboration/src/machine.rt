@@ -19,7 +19,7 @@ fn move_to(machine: &mut Machine, inner: Here) -> Result<(), AllocError>
     Ok(())
 }
 
-/// Enters a hypothesis or a variable.
+/// Enters a hypothesis, a variable or a local name.
 fn enter(alloc: Global, machine: &mut Machine, entrance: Entrance) -> Result<(), ElabFault>
     ensures { OnOk result (IsEntered machine.old.here machine.old.entries.items entrance machine.new.here machine.new.entries.items) }
 {
@@ -32,6 +32,16 @@ fn enter(alloc: Global, machine: &mut Machine, entrance: Entrance) -> Result<(),
         }
         Entrance::Variable(name, ty) => {
             let inner = machine.here.with_variable(alloc, name, ty)?;
+            move_to(machine, inner)?;
+            Ok(())
+        }
+        Entrance::Unnamed(ty) => {
+            let inner = machine.here.with_unnamed(alloc, ty)?;
+            move_to(machine, inner)?;
+            Ok(())
+        }
+        Entrance::Local(name, term) => {
+            let inner = machine.here.with_local(alloc, name, term)?;
             move_to(machine, inner)?;
             Ok(())
         }

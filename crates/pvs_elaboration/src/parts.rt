@@ -207,7 +207,10 @@ fn make_first<S: Scope>(
             here,
             projection.at,
             Node::Fst(size, tuple),
-            Frame::Part(PartRow::Others(beyond, before - 1, tuple, second), projection),
+            Frame::Part(
+                PartRow::Others(beyond, before - 1, tuple, second),
+                projection,
+            ),
         )
     }
 }

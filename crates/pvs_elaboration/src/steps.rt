@@ -21,6 +21,7 @@ use crate::listing::{Listing, fault_at};
 use crate::names::resume_name;
 use crate::parts::resume_part;
 use crate::scope::Scope;
+use crate::several::{resume_names, resume_several};
 use crate::subtypes::{resume_predicate, resume_subtype};
 use crate::tuples::{resume_product, resume_tuple};
 use crate::value::Value;
@@ -108,6 +109,8 @@ pub(crate) fn frame_answer<S: Scope>(
         }
         Frame::Tuple(row, pair) => resume_tuple(scope, listing, here, row, pair, value),
         Frame::Part(row, projection) => resume_part(scope, listing, here, row, projection, value),
+        Frame::Several(row, variables) => resume_several(scope, here, row, variables, value),
+        Frame::Names(row, body) => resume_names(scope, here, row, body, value),
         Frame::Product(row, beyond, binding) => {
             resume_product(scope, listing, here, row, beyond, binding, value)
         }
