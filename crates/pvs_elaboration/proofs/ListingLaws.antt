@@ -155,11 +155,11 @@ name_added l m x i n e ps qs ns =
     }
 
 -- the form of a listed part
-pub form_found : {l a m : Listing} {i : ℕ} {p : Part} {f : Form} {at : ℕ} → i < length l.parts.items → p ≡ get_or l.parts.items i p → IsFormAdded l a (parts.phrase_at l.text.now p) f → IsStartAdded a m p at → IsFormOf l m i f at
-form_found {l} {a} {m} {i} {p} {f} {at} n e r s =
+pub form_found : {l a m : Listing} {i : ℕ} {p : Part} {e : Phrase} {f : Form} {at : ℕ} → i < length l.parts.items → p ≡ get_or l.parts.items i p → e ≡ parts.phrase_at l.text.now p → IsFormAdded l a e f → IsStartAdded a m p at → IsFormOf l m i f at
+form_found {l} {a} {m} {i} {p} {f = f} n e d r s =
     let phrase_is = λ (t : Sources) (h : Lists m t). phrase_listed l t i p (r.more.lists t (s.more.lists t h)) n ∙ ap (parts.phrase_at l.text.now) (sym e) in
     record {
       more = more_trans r.more s.more;
-      is = λ t h. subst (IsForm t f) (sym (phrase_is t h)) (r.is t (s.more.lists t h));
+      is = λ t h. subst (IsForm t f) (d ∙ sym (phrase_is t h)) (r.is t (s.more.lists t h));
       start = λ t h. s.is t h ∙ ap (λ (v : Text). place (parts.phrase_at v p)) r.more.text ∙ sym (ap place (phrase_is t h));
     }
