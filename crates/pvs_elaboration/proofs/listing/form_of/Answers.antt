@@ -6,4 +6,4 @@ use Rattle.pvs_elaboration.proofs.listing.form_of.Goals as goal
 
 pub returns-clause-form : goal.returns-clause-form
 returns-clause-form c =
-    form_found (omega (arith, c.if-part-len.false, c.len.ensures)) c.index-part.ensures (subst (λ (e : Phrase). IsFormAdded c.args.listing.now c.list_layer.new.listing e c.in_ok-form.field-0) c.layer_of-layer.ensures.form c.in_ok-form.ensures) c.in_ok-start.ensures
+    form_found (omega (arith, c.if-part-len.false, c.len.ensures)) c.index-part.ensures (subst (λ (e : Phrase). IsFormAdded c.args.listing.now c.list_layer.new.listing e c.in_ok-form.form) c.layer_of-layer.ensures.form c.in_ok-form.ensures) c.in_ok-start.ensures
