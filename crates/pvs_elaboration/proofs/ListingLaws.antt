@@ -1,23 +1,30 @@
 -- What is listed is looked up by its number.
-use Rattle.std.proofs.Common.{◌≡◌, ◌<◌, ◌+◌, ℕ, zero, suc, List, [], ◌∷◌, ◌++◌, length, map, get_or, refl, sym, ◌∙◌, ap, ap₂, subst, arith}
-use Rattle.std.proofs.lemmas.List.{append-nil}
+use Rattle.std.proofs.Common.{◌≡◌, ◌<◌, ◌≤◌, ◌+◌, ℕ, zero, suc, List, [], ◌∷◌, ◌++◌, length, map, take, get_or, refl, sym, ◌∙◌, ap, ap₂, subst, arith}
+use Rattle.std.proofs.lemmas.List.{append-nil, take_all, take_more}
 use Rattle.std.specs.Borrow.{Bor}
 use Rattle.pvs_base.specs.declared.place.Pos.{Pos}
 use Rattle.pvs_base.specs.declared.code.Code.{Code}
 use Rattle.pvs_base.specs.declared.code.Code.TheVariants.{TooLarge}
 use Rattle.pvs_terms.specs.Tree.{Text}
+use Rattle.pvs_syntax.specs.Words.{spelling}
+use Rattle.pvs_syntax.specs.declared.expression.Binding.{Binding, out-Binding}
 use Rattle.pvs_elab.specs.Answer.{Answer, place_of_code}
+use Rattle.pvs_elab.specs.Desugar.{bound_of, names}
 use Rattle.pvs_elab.specs.Phrase.{Phrase, place}
 use Rattle.pvs_phrases.specs.declared.part.Part.{Part}
 use Rattle.pvs_phrases.specs.declared.part.Place.{Place}
+use Rattle.pvs_phrases.specs.declared.part.Place.TheVariants.{At as place_at}
 use Rattle.pvs_phrases.specs.Parts as parts
+use Rattle.pvs_phrases.specs.Parts.{bounds}
+use Rattle.pvs_phrases.proofs.BindingLaws.{bound_name}
 use Rattle.pvs_elaboration.specs.declared.fault.ElabFault.{ElabFault}
 use Rattle.pvs_elaboration.specs.declared.fault.ElabFault.TheVariants as elab_fault
 use Rattle.pvs_elaboration.specs.declared.listing.Listing.{Listing}
 use Rattle.pvs_elaboration.specs.declared.listing.Form.{Form}
 use Rattle.pvs_elaboration.specs.Known.{Sources, phrase_among, place_among, word_among, phrase_at, place_in, word_at, Known, Failed}
 use Rattle.pvs_elaboration.specs.Meanings.{fault_at}
-use Rattle.pvs_elaboration.specs.Listing.{Lists, bytes_of, IsMore, IsPartAdded, IsPlaceAdded, IsNameAdded, IsStartAdded, IsForm, IsFormAdded, IsFormOf, IsFaultOrMemory, Same, OutOfMemory}
+use Rattle.pvs_elaboration.specs.Several.{words_at}
+use Rattle.pvs_elaboration.specs.Listing.{Lists, bytes_of, IsMore, IsPartAdded, IsPlaceAdded, IsNameAdded, IsLastName, AreNamesAdded, AreVariablesAdded, IsStartAdded, IsStartOf, IsForm, IsFormAdded, IsFormOf, IsFaultOrMemory, Same, OutOfMemory}
 
 place_among_listed : (f : Place → Pos) (xs : List Place) (ys : List Pos) (i : ℕ) (d : Place) → i < length xs → place_among (map f xs ++ ys) i ≡ f (get_or xs i d)
 place_among_listed f [] ys i d h = absurd (omega (arith, h))
@@ -163,3 +170,81 @@ form_found {l} {a} {m} {i} {p} {f = f} n e d r s =
       is = λ t h. subst (IsForm t f) (d ∙ sym (phrase_is t h)) (r.is t (s.more.lists t h));
       start = λ t h. s.is t h ∙ ap (λ (v : Text). place (parts.phrase_at v p)) r.more.text ∙ sym (ap place (phrase_is t h));
     }
+
+-- the place where a listed part begins
+pub start_found : {l m : Listing} {i : ℕ} {p : Part} {at : ℕ} → i < length l.parts.items → p ≡ get_or l.parts.items i p → IsStartAdded l m p at → IsStartOf l m i at
+start_found {l} {m} {i} {p} {at} n e s = record {
+  more = s.more;
+  is = λ t h. s.is t h ∙ sym (ap place (phrase_listed l t i p (s.more.lists t h) n ∙ ap (parts.phrase_at l.text.now) (sym e)));
+}
+
+-- Names that are listed one after another.
+
+length_last : {A : Type 0} (xs : List A) (x : A) → length (xs ++ x ∷ []) ≡ suc (length xs)
+length_last [] x = refl
+length_last (y ∷ ys) x = ap suc (length_last ys x)
+
+pub last_name : (l m : Listing) (x : Bor Text) (y : Text) → x.now ≡ y → m.text ≡ l.text → m.parts.items ≡ l.parts.items → m.places.items ≡ l.places.items → m.names.items ≡ l.names.items ++ x ∷ [] → IsLastName l m y
+last_name l m x y d e ps qs ns =
+    let a = name_added l m x (length l.names.items) refl e ps qs ns in
+    subst (IsLastName l m) d (record { more = a.more; count = ap length ns ∙ length_last l.names.items x; is = a.is })
+
+words_more : (t : Sources) (i n : ℕ) → words_at t i (suc n) ≡ words_at t i n ++ word_at t (i + n) ∷ []
+words_more t i zero = ap (λ (j : ℕ). word_at t j ∷ []) (omega arith)
+words_more t i (suc n) =
+    let e : suc i + n ≡ i + suc n = omega arith in
+    ap (◌∷◌ (word_at t i)) (words_more t (suc i) n ∙ ap (λ (j : ℕ). words_at t (suc i) n ++ word_at t j ∷ []) e)
+
+-- the names of some of these variables, the first first
+pub record AreListed (l m : Listing) (xs : List Text) (first : ℕ) : Type 0 where
+  pub more : IsMore l m
+  pub count : length m.names.items ≡ first + length xs
+  pub is : (t : Sources) → Lists m t → words_at t first (length xs) ≡ xs
+
+pub none_listed : (l : Listing) (i : ℕ) → i ≡ length l.names.items → AreListed l l [] i
+none_listed l i e = record { more = more_none l; count = omega (arith, e); is = λ t h. refl }
+
+pub one_more : {l m n : Listing} {xs : List Text} {x : Text} {i : ℕ} → AreListed l m xs i → IsLastName m n x → AreListed l n (xs ++ x ∷ []) i
+one_more {l} {m} {n} {xs} {x} {i} a b =
+    let size : length (xs ++ x ∷ []) ≡ suc (length xs) = length_last xs x in
+    record {
+      more = more_trans a.more b.more;
+      count = omega (arith, a.count, b.count, size);
+      is = λ t h. ap (words_at t i) size ∙ words_more t i (length xs)
+          ∙ ap₂ (λ (ys : List Text) (y : Text). ys ++ y ∷ []) (a.is t (b.more.lists t h)) (ap (word_at t) (sym a.count) ∙ b.is t h);
+    }
+
+pub names_listed : {l m : Listing} {xs : List Text} {i : ℕ} → AreListed l m xs i → AreNamesAdded l m xs i
+names_listed a = record { more = a.more; is = a.is }
+
+-- the names of these variables
+
+names_last : (text : Text) (vs : List Binding) (v : Binding) → names (bounds text (vs ++ v ∷ [])) ≡ names (bounds text vs) ++ (bound_of text v).name ∷ []
+names_last text [] v = refl
+names_last text (u ∷ us) v = ap (◌∷◌ (bound_of text u).name) (names_last text us v)
+
+pub variable_listed : {l m n : Listing} (vs : List Binding) (k : ℕ) (v : Binding) {i : ℕ} → k < length vs → v ≡ get_or vs k v → AreListed l m (names (bounds l.text.now (take k vs))) i
+    → IsLastName m n (spelling m.text.now (out-Binding v).word) → AreListed l n (names (bounds l.text.now (take (k + 1) vs))) i
+variable_listed {l} {m} {n} vs k v {i} h e a b =
+    let text = l.text.now in
+    let last : (bound_of text (get_or vs k v)).name ≡ spelling m.text.now (out-Binding v).word =
+    ap (λ (u : Binding). (bound_of text u).name) (sym e) ∙ bound_name text v ∙ ap (λ (x : Text). spelling x (out-Binding v).word) (sym a.more.text) in
+    subst (λ (xs : List Text). AreListed l n xs i)
+    (sym (ap (λ us. names (bounds text us)) (take_more vs k v h) ∙ names_last text (take k vs) (get_or vs k v) ∙ ap (λ (x : Text). names (bounds text (take k vs)) ++ x ∷ []) last))
+    (one_more a b)
+
+pub variables_listed : {l m : Listing} (vs : List Binding) (k : ℕ) {i : ℕ} → length vs ≤ k → AreListed l m (names (bounds l.text.now (take k vs))) i → AreNamesAdded l m (names (bounds l.text.now vs)) i
+variables_listed {l} {m} vs k {i} h a = names_listed (subst (λ us. AreListed l m (names (bounds l.text.now us)) i) (take_all k vs h) a)
+
+names_length : (text : Text) (vs : List Binding) → length (names (bounds text vs)) ≡ length vs
+names_length text [] = refl
+names_length text (v ∷ vs) = ap suc (names_length text vs)
+
+pub scope_listed : {l a b m : Listing} (vs : List Binding) (p : Part) (pos : Pos) {i at body : ℕ} → AreNamesAdded l a (names (bounds l.text.now vs)) i → IsPlaceAdded a b (place_at pos) at → IsPartAdded b m p body
+    → AreVariablesAdded l m (names (bounds l.text.now vs)) p pos (record { first = i; count = length vs; body = body; at = at })
+scope_listed {l} {a} {b} {m} vs p pos {i} {at} {body} r s t = record {
+  more = more_trans r.more (more_trans s.more t.more);
+  names = λ q h. ap (words_at q i) (sym (names_length l.text.now vs)) ∙ r.is q (s.more.lists q (t.more.lists q h));
+  body = λ q h. t.is q h ∙ ap (λ (x : Text). parts.phrase_at x p) (s.more.text ∙ r.more.text);
+  at = λ q h. s.is q (t.more.lists q h);
+}

@@ -1,5 +1,5 @@
 -- What is listed, as the text has it.
-use Rattle.std.specs.Prelude.{◌≡◌, ℕ, List, [], ◌∷◌, ◌++◌, map}
+use Rattle.std.specs.Prelude.{◌≡◌, ℕ, suc, length, List, [], ◌∷◌, ◌++◌, map}
 use Rattle.std.specs.Borrow.{Bor}
 use Rattle.pvs_base.specs.declared.place.Pos.{Pos}
 use Rattle.pvs_terms.specs.Tree.{Text}
@@ -12,6 +12,10 @@ use Rattle.pvs_elaboration.specs.declared.fault.ElabFault.{ElabFault}
 use Rattle.pvs_elaboration.specs.declared.fault.ElabFault.TheVariants as elab_fault
 use Rattle.pvs_elaboration.specs.declared.binder.Binding.{Binding}
 use Rattle.pvs_elaboration.specs.declared.equal.Sides.{Sides}
+use Rattle.pvs_elaboration.specs.declared.lets.Definition.{Definition}
+use Rattle.pvs_elaboration.specs.declared.several.Variables.{Variables}
+use Rattle.pvs_elaboration.specs.Parts.{part_number}
+use Rattle.pvs_elaboration.specs.Several.{words_at}
 use Rattle.pvs_elaboration.specs.declared.listing.Listing.{Listing}
 use Rattle.pvs_elaboration.specs.declared.listing.Form.{Form}
 use Rattle.pvs_elaboration.specs.declared.listing.Form.TheVariants as form
@@ -50,8 +54,16 @@ IsForm t (form.Iff s) e = (e ≡ phrase.Iff (phrase_at t s.left) (phrase_at t s.
 IsForm t (form.Forall a o) e = e ≡ phrase.All (word_at t o.name) (phrase_at t a) (phrase_at t o.body) (place_in t o.at)
 IsForm t (form.Lambda a o) e = e ≡ phrase.Lambda (phrase_at t a) (word_at t o.name ∷ []) (phrase_at t o.body) (place_in t o.at)
 IsForm t (form.Function a o) e = e ≡ phrase.Function (phrase_at t a) (word_at t o.name ∷ []) (phrase_at t o.body) (place_in t o.at)
+IsForm t (form.LambdaOf a o) e = e ≡ phrase.Lambda (phrase_at t a) (words_at t o.first o.count) (phrase_at t o.body) (place_in t o.at)
+IsForm t (form.FunctionOf a o) e = e ≡ phrase.Function (phrase_at t a) (words_at t o.first o.count) (phrase_at t o.body) (place_in t o.at)
+IsForm t (form.Let o) e = (e ≡ phrase.Let (word_at t o.name) (phrase_at t o.value) (phrase_at t o.body) (place_in t o.at)) × (place_in t o.value_at ≡ place (phrase_at t o.value))
+IsForm t (form.LetAs a o) e = e ≡ phrase.LetAs (word_at t o.name) (phrase_at t a) (phrase_at t o.value) (phrase_at t o.body) (place_in t o.at)
+IsForm t (form.Subtype a o) e = e ≡ phrase.Sub (word_at t o.name) (phrase_at t a) (phrase_at t o.body) (place_in t o.at)
+IsForm t (form.Predicate q start p) e = (e ≡ phrase.Predicate (phrase_at t q) (place_in t p)) × (place_in t start ≡ place (phrase_at t q))
+IsForm t (form.Tuple x o) e = e ≡ phrase.Tuple o.beyond (phrase_at t x) (phrase_at t o.second) (place_in t o.at)
+IsForm t (form.Product a k o) e = e ≡ phrase.Product k (word_at t o.name) (phrase_at t a) (phrase_at t o.body) (place_in t o.at)
+IsForm t (form.Part x o) e = (e ≡ phrase.Part (phrase_at t x) (part_number t o) (place_in t o.number_at)) × (place_in t o.at ≡ place (phrase_at t x))
 IsForm t (form.Other p) e = e ≡ phrase.Other (place_in t p)
-IsForm t form.Unbuilt e = Unit {0}
 
 -- what was listed still is, of the same text
 pub record IsMore (l m : Listing) : Type 0 where
@@ -89,6 +101,31 @@ pub record IsBindingAdded (l m : Listing) (x : Text) (p : Part) (pos : Pos) (b :
   pub body : (t : Sources) → Lists m t → phrase_at t b.body ≡ parts.phrase_at l.text.now p
   pub at : (t : Sources) → Lists m t → place_in t b.at ≡ pos
 
+pub record IsDefinitionAdded (l m : Listing) (x : Text) (v p : Part) (pos : Pos) (b : Definition) : Type 0 where
+  pub more : IsMore l m
+  pub name : (t : Sources) → Lists m t → word_at t b.name ≡ x
+  pub value : (t : Sources) → Lists m t → phrase_at t b.value ≡ parts.phrase_at l.text.now v
+  pub body : (t : Sources) → Lists m t → phrase_at t b.body ≡ parts.phrase_at l.text.now p
+  pub start : (t : Sources) → Lists m t → place_in t b.value_at ≡ place (parts.phrase_at l.text.now v)
+  pub at : (t : Sources) → Lists m t → place_in t b.at ≡ pos
+
+-- the last name
+pub record IsLastName (l m : Listing) (x : Text) : Type 0 where
+  pub more : IsMore l m
+  pub count : length m.names.items ≡ suc (length l.names.items)
+  pub is : (t : Sources) → Lists m t → word_at t (length l.names.items) ≡ x
+
+-- these names, one after another, from a number on
+pub record AreNamesAdded (l m : Listing) (xs : List Text) (first : ℕ) : Type 0 where
+  pub more : IsMore l m
+  pub is : (t : Sources) → Lists m t → words_at t first (length xs) ≡ xs
+
+pub record AreVariablesAdded (l m : Listing) (xs : List Text) (p : Part) (pos : Pos) (b : Variables) : Type 0 where
+  pub more : IsMore l m
+  pub names : (t : Sources) → Lists m t → words_at t b.first b.count ≡ xs
+  pub body : (t : Sources) → Lists m t → phrase_at t b.body ≡ parts.phrase_at l.text.now p
+  pub at : (t : Sources) → Lists m t → place_in t b.at ≡ pos
+
 -- a form of this phrase, whose parts are listed
 pub record IsFormAdded (l m : Listing) (e : Phrase) (f : Form) : Type 0 where
   pub more : IsMore l m
@@ -99,6 +136,11 @@ pub record IsFormOf (l m : Listing) (i : ℕ) (f : Form) (at : ℕ) : Type 0 whe
   pub more : IsMore l m
   pub is : (t : Sources) → Lists m t → IsForm t f (phrase_at t i)
   pub start : (t : Sources) → Lists m t → place_in t at ≡ place (phrase_at t i)
+
+-- the place where the part of a number begins
+pub record IsStartOf (l m : Listing) (i at : ℕ) : Type 0 where
+  pub more : IsMore l m
+  pub is : (t : Sources) → Lists m t → place_in t at ≡ place (phrase_at t i)
 
 -- this fault, or memory ran out
 pub data IsFaultOrMemory (f e : ElabFault) : Type 0 where

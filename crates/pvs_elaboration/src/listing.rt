@@ -1,20 +1,26 @@
 //! What is listed of a text: parts, places and names. What is left to do has their numbers, since a
 //! value that holds a reference beside the number of a node cannot be passed on.
 
-ghost use Rattle.std.specs.Prelude.{◌≡◌, IfOk, IfErr, IfSome};
-ghost use Rattle.pvs_elab.specs.Desugar.{names};
+ghost use Rattle.std.specs.Prelude.{◌≡◌, IfOk, IfErr, IfSome, OnOk};
+ghost use Rattle.pvs_elab.specs.Desugar.{decimal, names};
 ghost use Rattle.pvs_elab.specs.Phrase as phrase;
+ghost use Rattle.pvs_syntax.specs.Words as words;
+ghost use Rattle.pvs_syntax.specs.declared.expression.Binding.{out-Binding};
 ghost use Rattle.pvs_phrases.specs.Parts.{binary_phrase, bounds, layer_phrase, nullary_phrase, phrase_at, ternary_phrase, unary_phrase};
 ghost use Rattle.pvs_phrases.specs.Parts as parts;
 ghost use Rattle.pvs_elaboration.specs.Known.{Sources, place_in, word_at};
 ghost use Rattle.pvs_elaboration.specs.Meanings as spec;
-ghost use Rattle.pvs_elaboration.specs.Listing.{IsBindingAdded, IsFaultOrMemory, IsFormAdded, IsFormOf, IsNameAdded, IsPartAdded, IsPlaceAdded, IsSidesAdded, IsStartAdded, Lists};
+ghost use Rattle.pvs_elaboration.specs.Listing.{AreNamesAdded, AreVariablesAdded, IsBindingAdded, IsDefinitionAdded, IsFaultOrMemory, IsFormAdded, IsFormOf, IsLastName, IsNameAdded, IsPartAdded, IsPlaceAdded, IsSidesAdded, IsStartAdded, IsStartOf, Lists};
 
 use crate::apply::Operands;
 use crate::binder::Binding;
 use crate::choice::Branches;
 use crate::equal::Sides;
 use crate::fault::ElabFault;
+use crate::lets::Definition;
+use crate::parts::Projection;
+use crate::several::Variables;
+use crate::tuples::Pair;
 use pvs_base::{Code, Fault, Pos};
 use pvs_lexer::spelling;
 use pvs_phrases::{
@@ -52,10 +58,26 @@ pub(crate) enum Form {
     Forall(usize, Binding),
     Lambda(usize, Binding),
     Function(usize, Binding),
+    /// The type of the tuple of several variables, and their scope.
+    LambdaOf(usize, Variables),
+    FunctionOf(usize, Variables),
+    /// A definition without a type that is written.
+    Let(Definition),
+    /// The type that is written, and the definition.
+    LetAs(usize, Definition),
+    /// The type of the variable, and its predicate.
+    Subtype(usize, Binding),
+    /// A predicate as a type: the predicate, where it begins, and the place of the whole.
+    Predicate(usize, usize, usize),
+    /// The first component, and the others.
+    Tuple(usize, Pair),
+    /// The type of the first component, the number of components beyond two, and the type of the
+    /// others.
+    Product(usize, usize, Binding),
+    /// The operand, and the number of the component.
+    Part(usize, Projection),
     /// A form that is out of profile.
     Other(usize),
-    /// A form that is not built yet.
-    Unbuilt,
 }
 
 /// The number of a part.
@@ -120,6 +142,43 @@ fn list_nullary<'a>(listing: &mut Listing<'a>, form: Nullary<'a>) -> Result<Form
     }
 }
 
+/// A predicate as a type.
+fn list_predicate<'a>(
+    listing: &mut Listing<'a>,
+    predicate: Part<'a>,
+    pos: Pos,
+) -> Result<Form, AllocError>
+    ensures { IfOk result (IsFormAdded listing.old listing.new (phrase.Predicate (phrase_at listing.old.text.now predicate.entry) pos)) }
+{
+    let start = add_start(listing, predicate)?;
+    let at = add_place(listing, Place::At(pos))?;
+    let predicate = add_part(listing, predicate)?;
+    Ok(Form::Predicate(predicate, start, at))
+}
+
+/// The component with a number, of an operand.
+fn list_projection<'a>(
+    listing: &mut Listing<'a>,
+    digits: &'a [u8],
+    operand: Part<'a>,
+    pos: Pos,
+) -> Result<Form, AllocError>
+    ensures { IfOk result (IsFormAdded listing.old listing.new (phrase.Part (phrase_at listing.old.text.now operand.entry) (decimal 0 digits.now) pos)) }
+{
+    let digits = add_name(listing, digits)?;
+    let number_at = add_place(listing, Place::At(pos))?;
+    let at = add_start(listing, operand)?;
+    let operand = add_part(listing, operand)?;
+    Ok(Form::Part(
+        operand,
+        Projection {
+            digits,
+            number_at,
+            at,
+        },
+    ))
+}
+
 /// A form with one part.
 fn list_unary<'a>(
     listing: &mut Listing<'a>,
@@ -139,7 +198,8 @@ fn list_unary<'a>(
             let at = add_place(listing, place)?;
             Ok(Form::Not(part, at))
         }
-        _ => Ok(Form::Unbuilt),
+        Unary::Predicate(pos) => list_predicate(listing, part, pos),
+        Unary::Projection(digits, pos) => list_projection(listing, digits, part, pos),
     }
 }
 
@@ -207,7 +267,51 @@ fn list_forall<'a>(
     Ok(Form::Forall(ty, binding))
 }
 
-/// LAMBDA of these variables. Several are not built yet.
+/// The name of a variable, after the other names.
+fn list_variable<'a>(listing: &mut Listing<'a>, variable: &'a Variable) -> Result<(), AllocError>
+    ensures { OnOk result (IsLastName listing.old listing.new (words.spelling listing.old.text.now (out-Binding variable.now).word)) }
+{
+    let name = spelling(listing.text, variable.word.start, variable.word.end);
+    listing.names.push(name)?;
+    Ok(())
+}
+
+/// The number of the first of the names of these variables, which are listed one after another.
+#[tactic(auto, using(crate::proofs::ListingLaws::none_listed, crate::proofs::ListingLaws::variable_listed, crate::proofs::ListingLaws::variables_listed))]
+fn list_names<'a>(
+    listing: &mut Listing<'a>,
+    variables: &'a Items<Variable>,
+) -> Result<usize, AllocError>
+    ensures { IfOk result (AreNamesAdded listing.old listing.new (names (bounds listing.old.text.now variables.now))) }
+{
+    let first = listing.names.len();
+    for variable in variables.as_slice() {
+        list_variable(listing, variable)?;
+    }
+    Ok(first)
+}
+
+/// Several variables, and their scope.
+fn list_variables<'a>(
+    listing: &mut Listing<'a>,
+    variables: &'a Items<Variable>,
+    body: Part<'a>,
+    pos: Pos,
+) -> Result<Variables, AllocError>
+    ensures { IfOk result (AreVariablesAdded listing.old listing.new (names (bounds listing.old.text.now variables.now)) body.entry pos) }
+{
+    let first = list_names(listing, variables)?;
+    let at = add_place(listing, Place::At(pos))?;
+    let body = add_part(listing, body)?;
+    Ok(Variables {
+        first,
+        count: variables.len(),
+        body,
+        at,
+    })
+}
+
+/// LAMBDA of these variables.
 fn list_lambda<'a>(
     listing: &mut Listing<'a>,
     variables: &'a Items<Variable>,
@@ -224,11 +328,15 @@ fn list_lambda<'a>(
             let ty = add_part(listing, ty)?;
             Ok(Form::Lambda(ty, binding))
         }
-        _ => Ok(Form::Unbuilt),
+        _ => {
+            let scope = list_variables(listing, variables, body, pos)?;
+            let ty = add_part(listing, ty)?;
+            Ok(Form::LambdaOf(ty, scope))
+        }
     }
 }
 
-/// The type of functions of these variables. Several are not built yet.
+/// The type of functions of these variables.
 fn list_function<'a>(
     listing: &mut Listing<'a>,
     variables: &'a Items<Variable>,
@@ -245,8 +353,111 @@ fn list_function<'a>(
             let domain = add_part(listing, domain)?;
             Ok(Form::Function(domain, binding))
         }
-        _ => Ok(Form::Unbuilt),
+        _ => {
+            let scope = list_variables(listing, variables, range, pos)?;
+            let domain = add_part(listing, domain)?;
+            Ok(Form::FunctionOf(domain, scope))
+        }
     }
+}
+
+/// A name, its value, and its scope.
+fn list_definition<'a>(
+    listing: &mut Listing<'a>,
+    name: &'a [u8],
+    value: Part<'a>,
+    body: Part<'a>,
+    pos: Pos,
+) -> Result<Definition, AllocError>
+    ensures { IfOk result (IsDefinitionAdded listing.old listing.new name.now value.entry body.entry pos) }
+{
+    let value_at = add_start(listing, value)?;
+    let binding = list_binding(listing, name, body, pos)?;
+    let value = add_part(listing, value)?;
+    Ok(Definition {
+        name: binding.name,
+        value,
+        body: binding.body,
+        value_at,
+        at: binding.at,
+    })
+}
+
+/// LET without a type that is written.
+fn list_let<'a>(
+    listing: &mut Listing<'a>,
+    name: &'a [u8],
+    value: Part<'a>,
+    body: Part<'a>,
+    pos: Pos,
+) -> Result<Form, AllocError>
+    ensures { IfOk result (IsFormAdded listing.old listing.new (phrase.Let name.now (phrase_at listing.old.text.now value.entry) (phrase_at listing.old.text.now body.entry) pos)) }
+{
+    let definition = list_definition(listing, name, value, body, pos)?;
+    Ok(Form::Let(definition))
+}
+
+/// LET with a type that is written.
+fn list_let_as<'a>(
+    listing: &mut Listing<'a>,
+    name: &'a [u8],
+    ty: Part<'a>,
+    value: Part<'a>,
+    body: Part<'a>,
+    pos: Pos,
+) -> Result<Form, AllocError>
+    ensures { IfOk result (IsFormAdded listing.old listing.new (phrase.LetAs name.now (phrase_at listing.old.text.now ty.entry) (phrase_at listing.old.text.now value.entry) (phrase_at listing.old.text.now body.entry) pos)) }
+{
+    let definition = list_definition(listing, name, value, body, pos)?;
+    let ty = add_part(listing, ty)?;
+    Ok(Form::LetAs(ty, definition))
+}
+
+/// A predicate subtype.
+fn list_subtype<'a>(
+    listing: &mut Listing<'a>,
+    name: &'a [u8],
+    ty: Part<'a>,
+    predicate: Part<'a>,
+    pos: Pos,
+) -> Result<Form, AllocError>
+    ensures { IfOk result (IsFormAdded listing.old listing.new (phrase.Sub name.now (phrase_at listing.old.text.now ty.entry) (phrase_at listing.old.text.now predicate.entry) pos)) }
+{
+    let binding = list_binding(listing, name, predicate, pos)?;
+    let ty = add_part(listing, ty)?;
+    Ok(Form::Subtype(ty, binding))
+}
+
+/// A tuple with so many components beyond two.
+fn list_tuple<'a>(
+    listing: &mut Listing<'a>,
+    beyond: usize,
+    first: Part<'a>,
+    second: Part<'a>,
+    place: Place<'a>,
+) -> Result<Form, AllocError>
+    ensures { IfOk result (IsFormAdded listing.old listing.new (phrase.Tuple beyond (phrase_at listing.old.text.now first.entry) (phrase_at listing.old.text.now second.entry) (parts.place_in listing.old.text.now place.entry))) }
+{
+    let at = add_place(listing, place)?;
+    let first = add_part(listing, first)?;
+    let second = add_part(listing, second)?;
+    Ok(Form::Tuple(first, Pair { second, beyond, at }))
+}
+
+/// The type of tuples with so many components beyond two.
+fn list_product<'a>(
+    listing: &mut Listing<'a>,
+    beyond: usize,
+    name: &'a [u8],
+    first: Part<'a>,
+    second: Part<'a>,
+    pos: Pos,
+) -> Result<Form, AllocError>
+    ensures { IfOk result (IsFormAdded listing.old listing.new (phrase.Product beyond name.now (phrase_at listing.old.text.now first.entry) (phrase_at listing.old.text.now second.entry) pos)) }
+{
+    let binding = list_binding(listing, name, second, pos)?;
+    let first = add_part(listing, first)?;
+    Ok(Form::Product(first, beyond, binding))
 }
 
 /// A form with two parts.
@@ -271,7 +482,12 @@ fn list_binary<'a>(
         Binary::Forall(name, pos) => list_forall(listing, name, first, second, pos),
         Binary::Lambda(variables, pos) => list_lambda(listing, variables, first, second, pos),
         Binary::Function(variables, pos) => list_function(listing, variables, first, second, pos),
-        _ => Ok(Form::Unbuilt),
+        Binary::Tuple(beyond, place) => list_tuple(listing, beyond, first, second, place),
+        Binary::Let(name, pos) => list_let(listing, name, first, second, pos),
+        Binary::Subtype(name, pos) => list_subtype(listing, name, first, second, pos),
+        Binary::Product(beyond, name, pos) => {
+            list_product(listing, beyond, name, first, second, pos)
+        }
     }
 }
 
@@ -319,7 +535,7 @@ fn list_ternary<'a>(
         Ternary::Choice { early, join, at } => {
             list_choice(listing, early, join, at, condition, first, second)
         }
-        Ternary::LetAs(_, _) => Ok(Form::Unbuilt),
+        Ternary::LetAs(name, pos) => list_let_as(listing, name, condition, first, second, pos),
     }
 }
 
@@ -350,6 +566,19 @@ pub(crate) fn form_of(listing: &mut Listing, part: usize) -> Result<(Form, usize
     let form = list_layer(listing, layer)?;
     let start = add_start(listing, part)?;
     Ok((form, start))
+}
+
+/// The number of the place where a listed part begins.
+pub(crate) fn start_at(listing: &mut Listing, part: usize) -> Result<usize, ElabFault>
+    ensures start { IfOk result (IsStartOf listing.old listing.new part) }
+    ensures memory { IfErr result (λ e. e ≡ ElabFault.Memory) }
+{
+    if part >= listing.parts.len() {
+        return Err(ElabFault::Memory);
+    }
+    let part = listing.parts[part];
+    let start = add_start(listing, part)?;
+    Ok(start)
 }
 
 /// The bytes of a name.
