@@ -20,7 +20,6 @@ use Rattle.pvs_elab.specs.Elab.{TypedTree, under_name}
 use Rattle.pvs_elaboration.specs.declared.fault.ElabFault.{ElabFault}
 use Rattle.pvs_elaboration.specs.declared.here.Here.{Here}
 use Rattle.pvs_elaboration.specs.declared.here.Typed as here
-use Rattle.pvs_elaboration.specs.declared.value.Mode.{Mode}
 use Rattle.pvs_elaboration.specs.declared.value.Mode.TheVariants as mode
 use Rattle.pvs_elaboration.specs.declared.value.Value.TheVariants as value
 use Rattle.pvs_elaboration.specs.declared.lets.Definition.{Definition}
@@ -29,9 +28,9 @@ use Rattle.pvs_elaboration.specs.declared.frame.Frame.TheVariants as frame
 use Rattle.pvs_elaboration.specs.declared.frame.Control.TheVariants as control
 use Rattle.pvs_elaboration.specs.declared.frame.Entrance.TheVariants as entrance
 use Rattle.pvs_elaboration.specs.declared.frame.Next.{Next}
-use Rattle.pvs_elaboration.specs.Known.{Sources, phrase_at, place_in, word_at, Known, Grows, Accepts, Site, site_in, IsHere, IsTypeOf, IsTermOf, AreKnownNumbers, Failed}
-use Rattle.pvs_elaboration.specs.Meanings.{Meaning, Typed, Term, Formed, Done, value_numbers, typed_at, typed_answer, on_typed, fault_of, fault_at, elab_at}
-use Rattle.pvs_elaboration.specs.Lets.{let_type, let_tree, let_lambda, let_body, let_checked, let_formed, let_value, let_annotation, let_answer, let_numbers}
+use Rattle.pvs_elaboration.specs.Known.{Sources, phrase_at, place_in, word_at, Known, Grows, Accepts, site_in, IsHere, IsTypeOf, IsTermOf, AreKnownNumbers, Failed}
+use Rattle.pvs_elaboration.specs.Meanings.{Typed, Term, Formed, Done, value_numbers, typed_at, typed_answer, on_typed, fault_of, fault_at, elab_at}
+use Rattle.pvs_elaboration.specs.Lets.{let_type, let_tree, let_lambda, let_body, let_checked, let_formed, let_value, let_annotation, let_answer}
 use Rattle.pvs_elaboration.specs.Machine.{asked_at, made_answer, made_type_answer, Follows, Steps}
 use Rattle.pvs_elaboration.proofs.KnownLaws.{number_stays, tree_stays, within_limits_made, large_failed, failed_then}
 use Rattle.pvs_elaboration.proofs.MachineLaws.{then_typed, then_term, then_formed, then_same}

@@ -1,6 +1,6 @@
 -- The rows of projections.
-use Rattle.std.proofs.Common.{◌≡◌, ◌≤◌, ◌<◌, ℕ, zero, suc, pred, Bool, true, false, cond, List, [], ◌∷◌, Option, Some, None, refl, sym, ◌∙◌, ap, ap₂, subst, arith}
-use Rattle.std.specs.Prelude.{nat_lt, nat_eq, nat_le, if◌then◌else◌, Result, Ok, Err}
+use Rattle.std.proofs.Common.{◌≡◌, ◌≤◌, ◌<◌, ℕ, zero, suc, Bool, true, false, Some, None, refl, sym, ◌∙◌, ap, subst, arith}
+use Rattle.std.specs.Prelude.{nat_lt, nat_eq, nat_le, if◌then◌else◌, Result, Ok}
 use Rattle.std.proofs.lemmas.Bool.{lt-ltb, ltb-true}
 use Rattle.std.proofs.lemmas.Bool.Decides.{nat_tests}
 use Rattle.pvs_base.specs.Answers.{◌>>=◌}
@@ -33,12 +33,12 @@ use Rattle.pvs_elaboration.specs.declared.parts.PartRow.TheVariants as part
 use Rattle.pvs_elaboration.specs.declared.frame.Frame.TheVariants as frame
 use Rattle.pvs_elaboration.specs.declared.frame.Next.{Next}
 use Rattle.pvs_elaboration.specs.Known.{Sources, phrase_at, place_in, Known, Grows, Site, site_in, IsHere, IsTypeOf, IsTermOf, AreKnownNumbers, Failed}
-use Rattle.pvs_elaboration.specs.Meanings.{Meaning, Typed, Term, Formed, value_numbers, typed_at, typed_answer, on_typed, fault_of, fault_at, elab_at}
-use Rattle.pvs_elaboration.specs.Parts.{part_next, part_rest, part_others, part_first, components, part_components, part_head, part_start, part_size, part_operand, part_number, part_answer}
-use Rattle.pvs_elaboration.specs.Machine.{asked_at, frame_answer, made_answer, Follows, Steps}
+use Rattle.pvs_elaboration.specs.Meanings.{Typed, Term, Formed, value_numbers, typed_at, typed_answer, on_typed, fault_of, fault_at, elab_at}
+use Rattle.pvs_elaboration.specs.Parts.{part_next, part_rest, part_others, components, part_components, part_head, part_start, part_size, part_operand, part_number, part_answer}
+use Rattle.pvs_elaboration.specs.Machine.{asked_at, made_answer, Follows, Steps}
 use Rattle.pvs_elaboration.proofs.KnownLaws.{grows_none, within_limits_made, large_failed, failed_then}
 use Rattle.pvs_elaboration.proofs.MachineLaws.{then_typed, then_same, failed_same}
-use Rattle.pvs_elaboration.proofs.StepLaws.{given, given_follows, follows_at_once, follows_same, steps_same, type_found, type_refused, fault_found}
+use Rattle.pvs_elaboration.proofs.StepLaws.{given, given_follows, follows_at_once, follows_same, steps_same, type_found, type_refused}
 use Rattle.pvs_elaboration.proofs.AskLaws.{asked_then, elab_place}
 use Rattle.pvs_elaboration.proofs.BinderLaws.{part_first as part_before}
 

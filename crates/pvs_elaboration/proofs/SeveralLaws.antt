@@ -1,13 +1,12 @@
 -- The rows of binders of several variables, and the names of the parts of a tuple.
-use Rattle.std.proofs.Common.{◌≡◌, ℕ, zero, suc, List, [], ◌∷◌, length, refl, sym, ◌∙◌, ap, ap₂}
+use Rattle.std.proofs.Common.{◌≡◌, ℕ, zero, suc, ◌∷◌, length, refl, sym, ◌∙◌, ap, ap₂}
 use Rattle.std.specs.Prelude.{Ok}
 use Rattle.pvs_base.specs.Answers.{◌>>=◌}
 use Rattle.pvs_terms.specs.declared.shape.Sort.TheVariants.{OfTerm}
-use Rattle.pvs_terms.specs.Tree.{Text, Tree, Fst, Snd}
+use Rattle.pvs_terms.specs.Tree.{Tree, Fst, Snd}
 use Rattle.pvs_terms.specs.Stored.{tree_at}
 use Rattle.pvs_subst.specs.Contexts.{Variable}
 use Rattle.pvs_typing.specs.Answers.{Gives}
-use Rattle.pvs_elab.specs.Answer.{Answer}
 use Rattle.pvs_elab.specs.Phrase as phrase
 use Rattle.pvs_elab.specs.Elab.{TypedTree, lifted_locals, parts_onto, under_variable}
 use Rattle.pvs_elab.specs.Elab as definition
@@ -26,10 +25,10 @@ use Rattle.pvs_elaboration.specs.declared.frame.Control.TheVariants as control
 use Rattle.pvs_elaboration.specs.declared.frame.Entrance.TheVariants as entrance
 use Rattle.pvs_elaboration.specs.declared.frame.Next.{Next}
 use Rattle.pvs_elaboration.specs.Known.{Sources, phrase_at, place_in, word_at, Known, Grows, Site, site_in, local_site, parts_site, IsHere, IsTypeOf, IsTermOf, AreKnownNumbers}
-use Rattle.pvs_elaboration.specs.Meanings.{Meaning, Typed, Term, Formed, Done, typed_answer, term_answer, formed_answer, on_typed, on_term, on_formed, elab_at}
+use Rattle.pvs_elaboration.specs.Meanings.{Typed, Term, Formed, Done, typed_answer, term_answer, formed_answer, on_typed, on_term, on_formed, elab_at}
 use Rattle.pvs_elaboration.specs.Binder.{lambda_body, function_range}
 use Rattle.pvs_elaboration.specs.Several.{words_at, several_lambda, several_predicate, several_function, several_answer}
-use Rattle.pvs_elaboration.specs.Machine.{asked_at, mode_numbers, names_answer, frame_answer, Follows}
+use Rattle.pvs_elaboration.specs.Machine.{asked_at, mode_numbers, names_answer, Follows}
 use Rattle.pvs_elaboration.proofs.MachineLaws.{then_typed, then_term, then_formed, nothing_after}
 use Rattle.pvs_elaboration.proofs.StepLaws.{given, given_follows, follows_at_once, follows_same}
 use Rattle.pvs_elaboration.proofs.AskLaws.{asked_then}

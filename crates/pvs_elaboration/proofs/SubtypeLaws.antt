@@ -19,7 +19,7 @@ use Rattle.pvs_typing.specs.declared.fault.TypeFault.{TypeFault}
 use Rattle.pvs_elab.specs.Answer.{Answer, within_limits_at, from_outcome, place_of_code}
 use Rattle.pvs_elab.specs.Phrase.{Phrase, place}
 use Rattle.pvs_elab.specs.Phrase as phrase
-use Rattle.pvs_elab.specs.Elab.{TypedTree, under_name, domain_if, domain_of}
+use Rattle.pvs_elab.specs.Elab.{under_name, domain_if, domain_of}
 use Rattle.pvs_elaboration.specs.declared.fault.ElabFault.{ElabFault}
 use Rattle.pvs_elaboration.specs.declared.here.Here.{Here}
 use Rattle.pvs_elaboration.specs.declared.here.Typed as here
@@ -30,15 +30,13 @@ use Rattle.pvs_elaboration.specs.declared.names.NameRow.TheVariants as name
 use Rattle.pvs_elaboration.specs.declared.subtypes.SubtypeRow.TheVariants as subtype
 use Rattle.pvs_elaboration.specs.declared.subtypes.PredicateRow.TheVariants as predicate
 use Rattle.pvs_elaboration.specs.declared.frame.Frame.TheVariants as frame
-use Rattle.pvs_elaboration.specs.declared.frame.Control.TheVariants as control
-use Rattle.pvs_elaboration.specs.declared.frame.Entrance.TheVariants as entrance
 use Rattle.pvs_elaboration.specs.declared.frame.Next.{Next}
-use Rattle.pvs_elaboration.specs.Known.{Sources, phrase_at, place_in, word_at, Known, Grows, Site, site_in, IsHere, IsTypeOf, IsTermOf, AreKnownNumbers, Failed}
-use Rattle.pvs_elaboration.specs.Meanings.{Meaning, Typed, Term, Formed, value_numbers, typed_at, typed_answer, formed_answer, on_typed, fault_of, fault_at, elab_at}
+use Rattle.pvs_elaboration.specs.Known.{Sources, phrase_at, place_in, word_at, Known, Grows, Site, site_in, IsHere, IsTypeOf, IsTermOf, Failed}
+use Rattle.pvs_elaboration.specs.Meanings.{Typed, Term, Formed, typed_at, typed_answer, formed_answer, on_typed, fault_of, fault_at, elab_at}
 use Rattle.pvs_elaboration.specs.Names.{accepted_at}
 use Rattle.pvs_elaboration.specs.Subtypes.{subtype_tree, subtype_type, subtype_answer, predicate_application, predicate_lifted, predicate_subtype, predicate_range, predicate_head, predicate_type, predicate_answer}
-use Rattle.pvs_elaboration.specs.Machine.{asked_at, frame_answer, made_answer, made_type_answer, Follows, Steps}
-use Rattle.pvs_elaboration.proofs.KnownLaws.{grows_none, within_limits_made, large_failed, failed_then}
+use Rattle.pvs_elaboration.specs.Machine.{asked_at, made_answer, made_type_answer, Follows, Steps}
+use Rattle.pvs_elaboration.proofs.KnownLaws.{grows_none, within_limits_made, large_failed}
 use Rattle.pvs_elaboration.proofs.MachineLaws.{then_typed, then_term, then_formed, then_same, then_two, failed_same}
 use Rattle.pvs_elaboration.proofs.StepLaws.{given, given_follows, follows_at_once, follows_same, steps_same, type_found, type_refused as refused_type}
 use Rattle.pvs_elaboration.proofs.AskLaws.{asked_then, elab_place}

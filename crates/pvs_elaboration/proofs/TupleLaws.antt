@@ -1,5 +1,5 @@
 -- The rows of tuples, and of types of tuples.
-use Rattle.std.proofs.Common.{◌≡◌, ℕ, suc, refl, sym, ◌∙◌, ap, ap₂, arith}
+use Rattle.std.proofs.Common.{◌≡◌, ℕ, suc, sym, ◌∙◌, ap, arith}
 use Rattle.std.specs.Prelude.{Result, Ok}
 use Rattle.pvs_base.specs.Answers.{◌>>=◌}
 use Rattle.pvs_base.specs.declared.place.Pos.{Pos}
@@ -11,7 +11,7 @@ use Rattle.pvs_terms.specs.Stored.{tree_at, node_tree}
 use Rattle.pvs_subst.specs.Replace.{lift}
 use Rattle.pvs_types.specs.Coerce.{lift_one}
 use Rattle.pvs_typing.specs.Answers.{Gives}
-use Rattle.pvs_elab.specs.Answer.{Answer, within_limits_at}
+use Rattle.pvs_elab.specs.Answer.{within_limits_at}
 use Rattle.pvs_elab.specs.Phrase as phrase
 use Rattle.pvs_elab.specs.Elab.{TypedTree, under_name}
 use Rattle.pvs_elaboration.specs.declared.fault.ElabFault.{ElabFault}
@@ -26,7 +26,7 @@ use Rattle.pvs_elaboration.specs.declared.tuples.ProductRow.TheVariants as produ
 use Rattle.pvs_elaboration.specs.declared.frame.Frame.TheVariants as frame
 use Rattle.pvs_elaboration.specs.declared.frame.Next.{Next}
 use Rattle.pvs_elaboration.specs.Known.{Sources, phrase_at, place_in, word_at, Known, Grows, site_in, IsHere, IsTypeOf, IsTermOf, AreKnownNumbers, Failed}
-use Rattle.pvs_elaboration.specs.Meanings.{Meaning, Typed, Term, Formed, value_numbers, typed_at, typed_answer, formed_answer, fault_at, elab_at}
+use Rattle.pvs_elaboration.specs.Meanings.{Typed, Term, Formed, value_numbers, typed_at, typed_answer, fault_at, elab_at}
 use Rattle.pvs_elaboration.specs.Tuples.{tuple_lifted, tuple_tree, tuple_second, tuple_first, tuple_answer, product_second, product_first, product_answer}
 use Rattle.pvs_elaboration.specs.Machine.{asked_at, made_answer, made_type_answer, Follows, Steps}
 use Rattle.pvs_elaboration.proofs.KnownLaws.{within_limits_made, large_failed}

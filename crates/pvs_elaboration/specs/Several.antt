@@ -3,8 +3,6 @@ use Rattle.std.specs.Prelude.{ℕ, zero, suc, List, [], ◌∷◌, Ok}
 use Rattle.pvs_base.specs.Answers.{◌>>=◌}
 use Rattle.pvs_base.specs.declared.place.Pos.{Pos}
 use Rattle.pvs_terms.specs.Tree.{Text, Tree, TBool}
-use Rattle.pvs_terms.specs.declared.shape.Sort.{Sort}
-use Rattle.pvs_terms.specs.declared.shape.Sort.TheVariants.{OfType}
 use Rattle.pvs_terms.specs.Stored.{Stored}
 use Rattle.pvs_elab.specs.Answer.{Answer}
 use Rattle.pvs_elab.specs.Elab.{Elab, TypedTree, under_variable}

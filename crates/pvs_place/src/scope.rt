@@ -30,6 +30,10 @@ impl<J: Judgements> Scope for Place<J> {
         self.instances.lift(id, by, 0)
     }
 
+    fn lift_type(&mut self, id: Id, by: u32) -> Result<Id, SubstFault> {
+        self.instances.lift(id, by, 0)
+    }
+
     fn put_in(&mut self, body: Id, arg: Id) -> Result<Id, SubstFault> {
         self.instances.put_in(body, arg)
     }

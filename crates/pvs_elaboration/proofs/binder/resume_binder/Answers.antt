@@ -1,4 +1,3 @@
-use Rattle.pvs_elaboration.proofs.KnownLaws.{grows_none, memory_failed}
 use Rattle.pvs_elaboration.proofs.BinderLaws.{lambda_body_row, range_row}
 use Rattle.pvs_elaboration.proofs.binder.resume_binder.Goals as goal
 
