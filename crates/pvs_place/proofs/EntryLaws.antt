@@ -5,13 +5,13 @@ use Rattle.std.proofs.lemmas.Slice.Eq.{bytes_eq-Decides}
 use Rattle.pvs_terms.specs.Tree.{Text, Tree, Leaf, Var, Name, Bind, Join, Project, If, Ref, Own, Formal, Inst, Trees, none, more}
 use Rattle.pvs_terms.specs.declared.shape.Sort.{Sort}
 use Rattle.pvs_terms.specs.declared.shape.Sort.TheVariants.{OfType, OfTerm}
-use Rattle.pvs_terms.specs.Stored.{Stored, IsName, IsNode, Extends, tree_at, text_at}
+use Rattle.pvs_terms.specs.Stored.{Stored, IsName, IsNode, tree_at, text_at}
 use Rattle.pvs_sig.specs.declared.signature.Class.{Class}
 use Rattle.pvs_sig.specs.declared.signature.Class.TheVariants as class
 use Rattle.pvs_sig.specs.declared.signature.EntryKind.{EntryKind}
 use Rattle.pvs_sig.specs.declared.signature.EntryKind.TheVariants as numbers
 use Rattle.pvs_sig.specs.declared.signature.Entry as entry
-use Rattle.pvs_sig.specs.Signature.{Signature, FormalSig, Entry, Import, Kind, TypeSig, ConstSig, VarSig, FormulaSig, entry_kind, formal_kind, kind_at, kind_in, formal_at, formals_in}
+use Rattle.pvs_sig.specs.Signature.{Signature, FormalSig, Entry, Kind, TypeSig, ConstSig, VarSig, FormulaSig, entry_kind, formal_kind, kind_at, formals_in}
 use Rattle.pvs_sig.specs.SignatureAt.{EntryIn, EntryKindIn, OptionIn, entry_at, entry_kind_at, option_at}
 use Rattle.pvs_sig.specs.References.{EachRef, EachOf, OptionEach, KindEach}
 use Rattle.pvs_sig.specs.Laws.{without, Avoids, RefAvoids}
@@ -21,10 +21,10 @@ use Rattle.pvs_sig.proofs.SignatureAtLaws.{entry_same, entry_in}
 use Rattle.pvs_instantiate.specs.InstancesView.{InstancesView, development, Leaves}
 use Rattle.pvs_instantiate.specs.Grown.{IsAlone, MayGrow, MayBecome, grown, become, with_entry}
 use Rattle.pvs_instantiate.proofs.TheoryLaws.{itself, text_itself}
-use Rattle.pvs_typing.specs.Growth.{EachName, IsKnown}
+use Rattle.pvs_typing.specs.Growth.{EachName}
 use Rattle.pvs_scope.specs.declared.place.PlaceNames.{PlaceNames}
 use Rattle.pvs_scope.specs.NamesAt.{NamesAt}
-use Rattle.pvs_place.specs.Place.{IsDeclaredIn, known_in, with_next, IsLatest, IsPlace}
+use Rattle.pvs_place.specs.Place.{known_in, IsPlace}
 use Rattle.pvs_place.specs.NextEntry.{IsEntryTree, IsEntryOption, IsNextKind, SeesAll}
 use Rattle.pvs_place.specs.code.Sorted.{IsSortedOption, IsSortedKind}
 use Rattle.pvs_place.proofs.PlaceLaws.{latest_kept}

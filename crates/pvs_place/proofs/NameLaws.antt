@@ -8,9 +8,9 @@ use Rattle.pvs_terms.specs.Tree.{Text, Tree, Ref, Own, Formal, Inst, Trees, IsWi
 use Rattle.pvs_terms.specs.Sorts.{sort_of}
 use Rattle.pvs_terms.specs.declared.shape.Sort.{Sort}
 use Rattle.pvs_terms.specs.declared.shape.Sort.TheVariants.{OfType, OfTerm}
-use Rattle.pvs_terms.specs.Stored.{Stored, IsRef, IsNode, tree_at, ref_at, text_at}
+use Rattle.pvs_terms.specs.Stored.{Stored, tree_at, ref_at}
 use Rattle.pvs_sig.specs.Signature.{Signature, Kind, TypeSig, ConstSig, VarSig, FormulaSig, kind_in, instantiate_found}
-use Rattle.pvs_sig.specs.Development.{Development, IsDevelopment, IsDeclared, HasSort, In, IsRefOver, theory_named, kind_of}
+use Rattle.pvs_sig.specs.Development.{Development, IsDevelopment, IsDeclared, HasSort, IsRefOver, theory_named, kind_of}
 use Rattle.pvs_sig.specs.Scope.{scope}
 use Rattle.pvs_sig.proofs.DevelopmentLaws.{scope_over_signature, kind_over}
 use Rattle.pvs_names.specs.declared.kind.NameKind.{NameKind}
@@ -19,7 +19,7 @@ use Rattle.pvs_names.specs.Members.{find, name_kind}
 use Rattle.pvs_names.specs.Resolve.{is_own, is_outside, in_profile, resolve, resolve_plain, visible_members}
 use Rattle.pvs_names.proofs.FindLaws.{resolved_is, resolved_kind, found_named}
 use Rattle.pvs_instantiate.specs.InstancesView.{InstancesView, development}
-use Rattle.pvs_typing.specs.Growth.{EachName, IsKnown}
+use Rattle.pvs_typing.specs.Growth.{EachName}
 use Rattle.pvs_typing.proofs.DevelopmentLaws.{each_name}
 use Rattle.pvs_elab.specs.Names.{TypedVariable, names_at, constant_kind, variable_kind}
 use Rattle.pvs_elaboration.specs.Known as known

@@ -1,11 +1,11 @@
 -- Trees that are made of known ones.
-use Rattle.std.proofs.Common.{◌≡◌, ℕ, refl, sym, ap, ◌∙◌, subst}
+use Rattle.std.proofs.Common.{ℕ, refl, ◌∙◌}
 use Rattle.std.specs.Prelude.{Result, Ok, Err, IfOk}
 use Rattle.pvs_terms.specs.Tree.{Ref}
 use Rattle.pvs_terms.specs.declared.node.Node.{Node}
 use Rattle.pvs_terms.specs.declared.node.Node.TheVariants as node
 use Rattle.pvs_terms.specs.declared.shape.Sort.{Sort}
-use Rattle.pvs_terms.specs.declared.shape.Sort.TheVariants.{OfType, OfTerm}
+use Rattle.pvs_terms.specs.declared.shape.Sort.TheVariants.{OfTerm}
 use Rattle.pvs_terms.specs.Sorts.{sort_of, HasSorts}
 use Rattle.pvs_terms.specs.Stored.{Stored, PartsIn, Stands, node_tree, tree_at}
 use Rattle.pvs_subst.specs.Replace.{lift, put_in}

@@ -1,19 +1,15 @@
 -- What typing accepts, without what it owes.
-use Rattle.std.proofs.Common.{◌≡◌, ℕ, List, ◌∷◌, ◌++◌, refl, sym, ap, ◌∙◌, subst}
+use Rattle.std.proofs.Common.{◌≡◌, ℕ, List, ◌∷◌, ◌++◌, refl, ap, ◌∙◌, subst}
 use Rattle.std.specs.Prelude.{Result, Ok, Err, IfOk, IfErr}
-use Rattle.pvs_base.specs.declared.code.Code.TheVariants.{Unknown}
-use Rattle.pvs_terms.specs.Tree.{Tree, Ref, TBool}
+use Rattle.pvs_terms.specs.Tree.{TBool}
 use Rattle.pvs_terms.specs.declared.shape.Sort.TheVariants.{OfType, OfTerm}
-use Rattle.pvs_terms.specs.declared.node.Node.{Node}
-use Rattle.pvs_terms.specs.declared.node.Node.TheVariants as node
-use Rattle.pvs_terms.specs.Stored.{Stored, node_tree, tree_at}
+use Rattle.pvs_terms.specs.Stored.{Stored, tree_at}
 use Rattle.pvs_subst.specs.declared.context.Condition.{Condition}
 use Rattle.pvs_subst.specs.declared.context.Assumed.{Assumed}
-use Rattle.pvs_subst.specs.Contexts.{Assumptions, Variable, context_at}
+use Rattle.pvs_subst.specs.Contexts.{Variable, context_at}
 use Rattle.pvs_sig.specs.Development.{Development}
-use Rattle.pvs_sig.specs.Lookups.{Lookups}
-use Rattle.pvs_types.specs.Outcome.{Outcome, Accepted, Refused, outcome_after, ◌>>◌}
-use Rattle.pvs_types.specs.Typing.{typing, check, predicate_check}
+use Rattle.pvs_types.specs.Outcome.{Outcome, outcome_after, ◌>>◌}
+use Rattle.pvs_types.specs.Typing.{check}
 use Rattle.pvs_typing.specs.Owed.{Judges, conditions_at}
 use Rattle.pvs_typing.specs.Growth.{IsKnown, IsKnownContext, Keeps}
 use Rattle.pvs_typing.specs.Answers.{IsFault}

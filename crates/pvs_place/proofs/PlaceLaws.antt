@@ -1,9 +1,9 @@
 -- What stays of a place where its store grows, and how a theory begins.
-use Rattle.std.proofs.Common.{◌≡◌, ℕ, List, [], ◌∷◌, refl, sym, ap, ap₂, ◌∙◌, subst, map}
+use Rattle.std.proofs.Common.{◌≡◌, ℕ, ◌∷◌, refl, sym, ap, ◌∙◌, subst}
 use Rattle.pvs_terms.specs.Stored.{Stored, Extends, IsName, text_at}
 use Rattle.pvs_sig.specs.declared.signature.Signature as numbers
 use Rattle.pvs_sig.specs.Development.{Development}
-use Rattle.pvs_sig.specs.SignatureAt.{signature_at, formal_sig_at, entry_at, import_at}
+use Rattle.pvs_sig.specs.SignatureAt.{signature_at}
 use Rattle.pvs_instantiate.specs.InstancesView.{InstancesView, development, Leaves}
 use Rattle.pvs_instantiate.specs.code.Importing.{IsEmptyOf}
 use Rattle.pvs_typing.specs.Growth.{Keeps}

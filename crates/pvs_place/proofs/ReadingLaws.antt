@@ -5,9 +5,9 @@ use Rattle.pvs_terms.specs.Tree.{Text, Tree, Ref, IsWithinLimits}
 use Rattle.pvs_terms.specs.Sorts.{sort_of}
 use Rattle.pvs_terms.specs.declared.shape.Sort.{Sort}
 use Rattle.pvs_terms.specs.declared.shape.Sort.TheVariants.{OfType, OfTerm}
-use Rattle.pvs_terms.specs.Stored.{Stored, Stands, tree_at, text_at}
+use Rattle.pvs_terms.specs.Stored.{Stored, Stands, text_at}
 use Rattle.pvs_sig.specs.Signature.{Signature, Kind}
-use Rattle.pvs_sig.specs.Development.{Development, IsDevelopment, IsDeclared, HasSort, IsRefOver, theory_named, kind_of}
+use Rattle.pvs_sig.specs.Development.{Development, IsDevelopment, IsDeclared, HasSort, kind_of}
 use Rattle.pvs_sig.specs.LookupsOf.{lookups_of, constant_type, is_type_kind}
 use Rattle.pvs_sig.specs.Ranks.{type_body}
 use Rattle.pvs_sig.proofs.AdditionLaws.{same_kind}

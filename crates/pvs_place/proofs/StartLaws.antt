@@ -1,9 +1,8 @@
 -- Where elaboration begins at a place.
-use Rattle.std.proofs.Common.{◌≡◌, ℕ, [], ◌∷◌, refl, sym, ap, ◌∙◌, subst}
+use Rattle.std.proofs.Common.{◌≡◌, ℕ, [], ◌∷◌, sym, ◌∙◌, subst}
 use Rattle.pvs_terms.specs.Tree.{TBool, True, False, Var}
 use Rattle.pvs_terms.specs.declared.shape.Sort.TheVariants.{OfType, OfTerm}
-use Rattle.pvs_subst.specs.declared.context.Assumed.{Assumed}
-use Rattle.pvs_sig.specs.Development.{Development, IsDevelopment}
+use Rattle.pvs_sig.specs.Development.{IsDevelopment}
 use Rattle.pvs_sig.specs.Lookups.{IsOrdered}
 use Rattle.pvs_sig.proofs.RankLaws.{lookups_are_ordered}
 use Rattle.pvs_instantiate.specs.InstancesView.{InstancesView, development}

@@ -1,5 +1,5 @@
 -- A theory that is being read, the latest of those that stand: what is known at its next place.
-use Rattle.std.specs.Prelude.{◌≡◌, ℕ, length, List, [], ◌∷◌, Ok, Err}
+use Rattle.std.specs.Prelude.{◌≡◌, ℕ, length, [], ◌∷◌, Ok, Err}
 use Rattle.pvs_base.specs.declared.code.Code.TheVariants.{Unknown}
 use Rattle.pvs_terms.specs.Tree.{Text, Ref}
 use Rattle.pvs_terms.specs.declared.shape.Sort.{Sort}

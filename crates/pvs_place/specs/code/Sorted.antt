@@ -1,7 +1,7 @@
 -- The trees of an entry by number, each of whose nodes has parts of the sorts that it needs.
 use Rattle.std.specs.Prelude.{ℕ, Option, Some, None}
 use Rattle.pvs_terms.specs.Sorts.{IsSorted}
-use Rattle.pvs_terms.specs.Stored.{Stored, IsNode, tree_at}
+use Rattle.pvs_terms.specs.Stored.{Stored, tree_at}
 use Rattle.pvs_sig.specs.declared.signature.EntryKind.{EntryKind}
 use Rattle.pvs_sig.specs.declared.signature.EntryKind.TheVariants as numbers
 
