@@ -12,6 +12,3 @@ mod writing;
 
 pub use printing::{print_term, print_type};
 pub use words::{BinderWord, InfixWord, Sign};
-
-#[cfg(test)]
-mod tests;
