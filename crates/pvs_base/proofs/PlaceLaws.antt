@@ -8,11 +8,11 @@ use Rattle.std.proofs.lemmas.List.Sums.{take_while-cons}
 use Rattle.pvs_base.specs.declared.place.Pos.{Pos}
 use Rattle.pvs_base.specs.Place.{ends_line, last_line, place_after}
 
--- the place behind one byte, from what is known of the bytes up to there
+-- the place after one byte, from what is known of the bytes up to there
 abbrev placed : Pos → ℕ → Bool → List ℕ → Pos
 placed first lines some line = record { line = first.line + lines; col = cond some 1 first.col + length line }
 
--- the place behind one byte
+-- the place after one byte
 abbrev pub place_next : Pos → ℕ → Pos
 place_next p b = cond (ends_line b) (record { line = p.line + 1; col = 1 }) (record { line = p.line; col = p.col + 1 })
 

@@ -7,12 +7,12 @@ use Rattle.pvs_base.specs.declared.place.Pos.{Pos}
 abbrev pub ends_line : ℕ → Bool
 ends_line b = b == 10
 
--- the bytes behind the last line feed, the last one first
+-- the bytes after the last line feed, the last one first
 abbrev pub last_line : List ℕ → List ℕ
 last_line bytes = take_while (λ b. not (ends_line b)) (reverse bytes)
 
 -- Where a text goes on that begins at this place with these bytes. Each line feed is one line more.
--- A column is one more than the number of bytes behind the last line feed, or behind the beginning.
+-- A column is one more than the number of bytes after the last line feed, or after the beginning.
 abbrev pub place_after : Pos → List ℕ → Pos
 place_after first bytes = record {
   line = first.line + count_by ends_line bytes;

@@ -18,7 +18,7 @@ impl Pos {
     /// The place of the first byte of a text.
     pub const FIRST: Pos = Pos { line: 1, col: 1 };
 
-    /// The place behind a byte that stands here.
+    /// The place after a byte that stands here.
     #[tactic(auto, using(crate::proofs::PlaceLaws::place_after_push))]
     pub fn after(self, byte: u8) -> Pos
         requires line { self.line + 1 < 2 ^ 32 }

@@ -30,7 +30,7 @@ one_more None new v true is = ap is_some is
 one_more None new v false is = ap is_some is
 one_more (Some w) new v same is = ap is_some is
 
--- the words by a test that tells the proved formulas
+-- the words by a test that says which formulas are proved
 pub same_words : (test : FormulaName → Bool) (os : List PartOutcome) → ((n : FormulaName) → test n ≡ list_any (proves n) os)
     → (λ (n : FormulaName). let w : LineWord = if test n then CompleteWord else OpenWord in w) ≡ lemma_word os
 same_words test os h = fun_ext (λ n. ap (λ (b : Bool). let w : LineWord = if b then CompleteWord else OpenWord in w) (h n))

@@ -77,7 +77,7 @@ pub entry_names_append : (es fs : List Entry) → entry_names (es ++ fs) ≡ ent
 entry_names_append [] fs = refl
 entry_names_append (e ∷ es) fs = ap (λ (ns : List (List ℕ)). kind_names e.name e.kind ++ ns) (entry_names_append es fs) ∙ sym (append_assoc (kind_names e.name e.kind) (entry_names es) (entry_names fs))
 
--- one more entry, and the names of the declarations behind it
+-- one more entry, and the names of the declarations after it
 pub entry_names_more : (es : List Entry) (e : Entry) (ns : List (List ℕ)) → entry_names (es ++ e ∷ []) ++ ns ≡ entry_names es ++ (kind_names e.name e.kind ++ ns)
 entry_names_more es e ns =
     ap (λ (xs : List (List ℕ)). xs ++ ns) (entry_names_append es (e ∷ []))

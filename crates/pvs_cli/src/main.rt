@@ -31,7 +31,7 @@ fn run_words(rt: &HostRuntime, words: &[&str]) -> Status {
     run(alloc, words, &mut files, &mut src, &mut sink)
 }
 
-/// Runs the program with the words behind its name.
+/// Runs the program with the words after its name.
 fn run_arguments(rt: &HostRuntime, arguments: env::Args) -> Result<Status, AllocError> {
     let mut texts = Vec::new(rt.alloc());
     for argument in arguments.skip(1) {

@@ -23,7 +23,7 @@ struct Went {
     status: Status,
     written: Vec<u8>,
 
-    /// What the source gives behind it.
+    /// What the source gives after it.
     behind: Vec<u8>,
 }
 
@@ -125,7 +125,7 @@ fn assert_report(
     assert_bytes(rt, alloc, text, text.as_bytes(), report, status)
 }
 
-/// One text behind another.
+/// One text after another.
 fn joined(alloc: Global, first: &str, second: &str) -> Result<String, AllocError> {
     let mut all = String::from_str(alloc, first)?;
     all.push_str(second)?;

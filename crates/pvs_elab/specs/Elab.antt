@@ -45,7 +45,7 @@ abbrev pub lifted_locals : List Local → List Local
 lifted_locals [] = []
 lifted_locals (l ∷ ls) = record { name = l.name; term = lift_one l.term } ∷ lifted_locals ls
 
--- names for the parts of a tuple, the last in front; one name stands for the whole
+-- names for the parts of a tuple, the last one first; one name stands for the whole
 abbrev pub parts_onto : List Local → Tree → List Text → List Local
 parts_onto ls t [] = ls
 parts_onto ls t (x ∷ []) = record { name = x; term = t } ∷ ls

@@ -213,7 +213,7 @@ Turns a b text r m (Ok (turn.Go c)) = Goes a b text r m c
 Turns a b text r m (Ok (turn.Stop v)) = Finds a b r v
 Turns a b text r m (Err e) = Failed a b r e
 
--- what a call tells of an answer
+-- what a call says of an answer
 abbrev pub Tells : Known → Known → Answer Meaning → Result Value ElabFault → Type 0
 Tells a b r (Ok v) = Finds a b r v
 Tells a b r (Err e) = Failed a b r e

@@ -11,7 +11,7 @@ use Rattle.pvs_lexer.specs.declared.token.TokenKind.TheVariants.{Word, Bang, Num
 use Rattle.pvs_lexer.specs.Tokens.{is_word_byte, is_word, is_bang, is_number, is_quote, is_quoted, is_symbol, grammar_one_byte, outside_one_byte, grammar_two_bytes, outside_two_bytes, kind_of, Match, match_or, longest_within, longest}
 use Rattle.pvs_lexer.specs.code.Scan.{is_other, begins_variable, symbol_size}
 
--- a token at the front of a text, of at most n bytes
+-- a token at the beginning of a text, of at most n bytes
 pub record IsFront (text : List ℕ) (n : ℕ) (found : Match) : Type 0 where
   pub some : 1 ≤ found.1
   pub within : found.1 ≤ n
@@ -211,7 +211,7 @@ variable_is_letter b h = grind (arith, nat_tests)
 mark_no_word : (c : ℕ) → (c == 33) ≡ true → is_word_byte c ≡ false
 mark_no_word c h = let e : c ≡ 33 = (Decides-eqb c 33).0 h in ap is_word_byte e
 
--- a variable of so many digits behind the first
+-- a variable of so many digits after the first
 kind_variable : (b c d : ℕ) (ds : List ℕ) (n : ℕ) → begins_variable b (c ∷ d ∷ ds) ≡ true
     → kind_of (b ∷ c ∷ d ∷ take n ds) ≡ cond (list_all is_ascii_digit (take n ds) && nat_le (length (take n ds)) 8) (Some Bang) None
 unfolding begins_variable
@@ -363,7 +363,7 @@ sized_some (suc n) h = refl
 pub symbol_longest : (b : ℕ) (bs : List ℕ) (n : ℕ) → is_other b ≡ true → symbol_size b bs ≡ n → n ≢ 0 → longest (b ∷ bs) ≡ Some (Symbol, n)
 symbol_longest b bs n h e k = symbol_sized b bs h ∙ ap sized e ∙ sized_some n k
 
--- ---- what is found is a token at the front
+-- ---- what is found is a token at the beginning
 
 found_here : (found : Match) (text : List ℕ) (n : ℕ) (k : Option TokenKind) → k ≡ kind_of (take (suc n) text) → match_or k (suc n) (longest_within n text) ≡ Some found
     → (longest_within n text ≡ Some found → IsFront text n found) → IsFront text (suc n) found

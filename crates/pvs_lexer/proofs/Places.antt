@@ -1,4 +1,4 @@
--- The place behind two parts of a text.
+-- The place after two parts of a text.
 use Rattle.std.proofs.Common.{◌≡◌, ℕ, List, [], ◌∷◌, ◌++◌, sym, ap, ap₂, ◌∙◌, append_assoc, append-nil}
 use Rattle.std.proofs.Math.Nat.{add-zero}
 use Rattle.pvs_base.specs.declared.place.Pos.{Pos}

@@ -46,7 +46,7 @@ later o p xs before zero (b ∷ bs) =
     (fault_of b) (λ n. tokens_from o p ((xs ++ before) ++ b ∷ []) (n - 1) bs) (λ n. tokens_from (o + length xs) (place_after p xs) (before ++ b ∷ []) (n - 1) bs)
     (omega (arith, length-append xs before)) (place_append p xs before) (λ n. go (n - 1)))
 
--- the tokens behind so many bytes are those of what is left, from its offset and place on
+-- the tokens after so many bytes are those of what is left, from its offset and place on
 pub tokens_past : (o : ℕ) (p : Pos) (k : ℕ) (rest : List ℕ) → k ≤ length rest
     → tokens_from o p [] k rest ≡ tokens_from (o + k) (place_after p (take k rest)) [] 0 (drop k rest)
 tokens_past o p k rest h =

@@ -38,7 +38,7 @@ fn is_in(class: Class, b: u8) -> bool
     }
 }
 
-/// How many bytes at the front are of a class.
+/// How many bytes at the beginning are of a class.
 fn run(class: Class, text: &[u8]) -> usize
     ensures value { result ≡ prefix_len (scan.is_in class) text.now }
     ensures within { result ≤ length text.now }

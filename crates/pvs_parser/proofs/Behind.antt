@@ -10,7 +10,7 @@ use Rattle.pvs_parser.proofs.Follows.{pull, Ends}
 use Rattle.pvs_parser.proofs.Gets.{after_other}
 use Rattle.pvs_parser.proofs.Deeper.{WholeEnds}
 
--- a kind that stands behind a declaration
+-- a kind that stands after a declaration
 abbrev pub ends_decl : TerminalKind → Bool
 ends_decl kind.Semicolon = true
 ends_decl kind.Id = true
@@ -20,13 +20,13 @@ ends_decl kind.End = true
 ends_decl kind.EndAssuming = true
 ends_decl _ = false
 
--- a kind that stands behind a formal or a declaration
+-- a kind that stands after a formal or a declaration
 abbrev pub ends_part : TerminalKind → Bool
 ends_part kind.Comma = true
 ends_part kind.CloseBracket = true
 ends_part k = ends_decl k
 
--- a kind that stands behind a formal or a declaration comes next, or none
+-- a kind that stands after a formal or a declaration comes next, or none
 abbrev pub PartEnds : Tokens → Type 0
 PartEnds [] = Unit {0}
 PartEnds (t ∷ ts) = ends_part t.kind ≡ true
@@ -110,7 +110,7 @@ id_ends_kind _ e = cc
 pub decl_at_id : (t : Terminal) (us : Tokens) → IsId t → DeclEnds (t ∷ us)
 decl_at_id t us is = id_ends_kind t.kind is
 
--- an equals sign, behind a type
+-- an equals sign, after a type
 equal_facts : (same_kind kind.Equal kind.Dot ≡ false) × (same_kind kind.Equal kind.OpenBracket ≡ false) × (same_kind kind.Equal kind.Colon ≡ false)
 unfolding same_kind
 equal_facts = (refl, refl, refl)

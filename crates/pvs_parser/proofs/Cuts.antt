@@ -15,7 +15,7 @@ use Rattle.pvs_parser.specs.Language.{Tokens, Limit, level, comparison}
 use Rattle.pvs_parser.specs.code.Descent.{Answer, either, stop, too_many, too_deep, after, expect, id, number, compares, compares_of, begins, begins_of, prefix, is_below, with_room}
 use Rattle.pvs_base.specs.Answers.{◌>>=◌}
 
--- the tokens that stand behind the cut in one reading and in the other, and which reasons of the first need not be those of the other
+-- the tokens that stand after the cut in one reading and in the other, and which reasons of the first need not be those of the other
 pub record Cut : Type 0 where
   pub here : Tokens
   pub there : Tokens
@@ -31,7 +31,7 @@ abbrev pub Meets : Cut → Mode → ℕ → Tokens → Tokens → Type 0
 Meets cut Mode.Past n ts us = length ts ≤ length cut.here
 Meets cut Mode.Before n ts us = (q : Tokens) × (ts ≡ q ++ cut.here) × (us ≡ q ++ cut.there) × (length q ≤ n)
 
--- behind a token that was taken of them
+-- after a token that was taken of them
 abbrev pub Took : Cut → Mode → ℕ → Tokens → Tokens → Type 0
 Took cut Mode.Past n ts us = length ts < length cut.here
 Took cut Mode.Before n ts us = (q : Tokens) × (ts ≡ q ++ cut.here) × (us ≡ q ++ cut.there) × (length q ≤ n)
@@ -47,7 +47,7 @@ abbrev pub Low : Mode → ℕ → ℕ → Type 0
 Low Mode.Past m n = Unit {0}
 Low Mode.Before m n = m < n
 
--- what answers have behind them
+-- what answers have after them
 pub record Shape (X : Type 0) : Type 0 where
   pub rest : X → Tokens
   pub put : X → Tokens → X

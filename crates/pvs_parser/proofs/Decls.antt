@@ -23,7 +23,7 @@ use Rattle.pvs_parser.proofs.Ids.{ids_sound, ids_one}
 use Rattle.pvs_parser.proofs.FormalLists.{plus_sound}
 use Rattle.pvs_parser.proofs.Instances.{importing_sound}
 
--- what stands behind names and a colon
+-- what stands after names and a colon
 abbrev Behind : (Tokens → List Decl → Type 0) → Tokens → Terminal → Tokens → List Decl × Tokens → Type 0
 Behind D ns u ts p = (vs : Tokens) × Splits ts vs p.1 × D (ns ++ u ∷ vs) p.0
 
@@ -52,7 +52,7 @@ function_sound limit t v ts us rest e is e2 opened =
     let d : DerivesParameters limit (v ∷ f.0) p.0 = subst (λ z. DerivesParameters limit (v ∷ z) p.0) (sym f.2.3) (DerivesParameters.parameters f.2.0 p.0 f.2.2 v f.2.1 opened f.2.4 f.2.5 f.2.6) in
     weaken (λ q g. (t ∷ v ∷ (f.0 ++ a.0 ∷ g.0), put e (put e2 (glue f.1 (put a.1 g.1))), g.2)) (constant_sound limit t a.0 t.word (v ∷ f.0) p.0 vs is refl d a.2)))
 
--- what is read behind one name is what is read behind its terminal
+-- what is read after one name is what is read after its terminal
 one_of : (limit : Limit) (ns : Tokens) (w : Word) (u : Terminal) (ts : Tokens) (D : Tokens → List Decl → Type 0) (p : List Decl × Tokens) → (t : Terminal) → ns ≡ t ∷ [] → Behind D (t ∷ []) u ts p → Behind D ns u ts p
 one_of limit ns w u ts D p t e b = subst (λ z. Behind D z u ts p) (sym e) b
 

@@ -30,9 +30,9 @@ use Rattle.pvs_parser.proofs.Instances.{importing_complete}
 same : {A : Type 0} {o p : Answer A} {y : A} → o ≡ p → Gets p y → Gets o y
 same e g = record { is = e ∙ g.is }
 
--- ---- what stands behind names and a colon
+-- ---- what stands after names and a colon
 
--- what is read of a declaration, behind its names and the colon
+-- what is read of a declaration, after its names and the colon
 abbrev Declares : Limit → List Word → Tokens → List Decl → Tokens → Type 0
 Declares limit ws all ds us = Gets (decls_after_colon limit ws all) (ds, us)
 
@@ -64,7 +64,7 @@ constant_goes : (limit : Limit) (w : Word) (bs : List Binding) (ts vs : Tokens) 
     → Gets (constant limit w bs all) (decl.ConstDecl w bs a x ∷ [], us)
 constant_goes limit w bs ts vs a m x d e all us s ends = then_ _ (type_complete limit outermost ts a (m, d) all (vs ++ us) s (body_stops limit vs x e us ends)) (then_ _ (body_goes limit vs x e us ends) found)
 
--- the first terminal of a type, behind names and a colon
+-- the first terminal of a type, after names and a colon
 declared_type : (limit : Limit) (ws : List Word) (t : Terminal) (ts : Tokens) (k : TerminalKind) → starts_type k ≡ true → decls_of_kind limit ws t ts k ≡ constants limit ws (t ∷ ts)
 declared_type limit ws t ts kind.Type e = cc
 declared_type limit ws t ts kind.NonemptyType e = cc
@@ -73,7 +73,7 @@ declared_type limit ws t ts kind.Axiom e = cc
 declared_type limit ws t ts kind.Lemma e = cc
 declared_type limit ws t ts _ e = refl
 
--- a type, behind names and a colon
+-- a type, after names and a colon
 declares_type : (limit : Limit) (ws : List Word) (ts : Tokens) (a : TypeExpr) (m : Nesting) → Derives limit type_ outermost ts a m → (all us : Tokens) → Splits all ts us → (ds : List Decl) (rest : Tokens)
     → Gets (constants limit ws all) (ds, rest) → Declares limit ws all ds rest
 declares_type limit ws ts a m d all us s ds rest g =

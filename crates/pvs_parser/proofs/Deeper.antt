@@ -18,7 +18,7 @@ use Rattle.pvs_parser.proofs.Gets.{Gets, found, then_}
 use Rattle.pvs_parser.proofs.DescentSteps.{Splits}
 use Rattle.pvs_parser.proofs.Wholes.{read_expr_sound, read_type_sound, read_list_sound, read_expr_complete, read_type_complete, read_bindings_complete, read_actuals_complete}
 
--- a front of the tokens is what the relation says
+-- a prefix of the tokens is what the relation says
 abbrev pub Fore : {A : Type 0} → (Tokens → A → Type 0) → Tokens → A × Tokens → Type 0
 Fore D ts p = (vs : Tokens) × Splits ts vs p.1 × D vs p.0
 

@@ -44,7 +44,7 @@ pub record GoComplete (go : Readers) (n : ℕ) : Type 0 where
   pub type : (l : Nesting) (ts : Tokens) (x : TypeExpr) (m : Nesting) → Derives go.limit type_ l ts x m → length ts < n
       → (all us : Tokens) → Splits all ts us → Ends us → Gets (go.type l all) (x, m, us)
 
--- a term goes over into what is read behind it
+-- a term goes over into what is read after it
 abbrev pub TermAfter : Readers → Bool → Nesting → Tokens → Expr → Nesting → Tokens → Tokens → Type 0
 TermAfter go b l ts x m all us = (begins all ≡ None) × ((n : ℕ) → length ts ≤ n → (k : ℕ) × (suc n ≤ k + length ts)
     × ((y : Expr × Nesting × Tokens) → Gets (term_from go k b x m us) y → Gets (first_with go l all >>= λ p. term_from go n p.1 p.0 l p.2) y))
@@ -71,12 +71,12 @@ FormReads go Form.Otherwise l ts x m = ((us : Tokens) → ItemStops Item.Express
 abbrev pub NameReads : Readers → Nesting → Tokens → NameExpr → Nesting → Type 0
 NameReads go l ts x m = (t : Terminal) × (vs : Tokens) × (ts ≡ t ∷ vs) × IsId t × (m ≡ l) × ((all us : Tokens) → Splits all vs us → Ends us → (after kind.Colon all ≡ None) × Gets (name_after go t.word l all) (x, us))
 
--- an instance, behind which a dot and an identifier stand
+-- an instance, after which a dot and an identifier stand
 abbrev pub InstReads : Readers → Nesting → Tokens → InstExpr → Nesting → Type 0
 InstReads go l ts x m = (t : Terminal) × (vs : Tokens) × (ts ≡ t ∷ vs) × IsId t × (m ≡ l)
     × ((all us : Tokens) (d u : Terminal) → Splits all vs (d ∷ u ∷ us) → Is kind.Dot d → IsId u → (after kind.Colon all ≡ None) × Gets (name_after go t.word l all) (name_with_theory x u.word, us))
 
--- a list, behind items found before
+-- a list, after items found before
 abbrev pub ListReads : Readers → (i : Item) → Nesting → Tokens → List (ItemTree i) → Nesting → Type 0
 ListReads go i l ts xs m = (length xs ≤ length ts) × (IsBelow go.limit 0 → AtMost go.limit (length xs))
     × ((all us : Tokens) → Splits all ts us → ItemStops i us → after kind.Comma us ≡ None → (room : ℕ) (before : List (ItemTree i)) → length xs ≤ room
@@ -304,7 +304,7 @@ call_mark_goes limit false l ts f y lt g = g
 first_goes : (go : Readers) (l : Nesting) (t : Terminal) (us all : Tokens) (k : TerminalKind) (y : Expr × Bool × Tokens) → Is k t → Gets (first_of go l t us k) y → all ≡ t ∷ us → Gets (first_with go l all) y
 first_goes go l t us all k y is g e = record { is = ap (λ z. first_with go l z) e ∙ ap (first_of go l t us) is ∙ g.is }
 
--- what is read first and goes over into what is behind it
+-- what is read first and goes over into what is after it
 first_term : (go : Readers) (b : Bool) (l : Nesting) (ts : Tokens) (x : Expr) (all us rest : Tokens) (t : Terminal) → all ≡ t ∷ rest → prefix t.kind ≡ None → Gets (first_with go l all) (x, b, us) → 1 ≤ length ts
     → (begins all ≡ None) × ((n : ℕ) → length ts ≤ n → (k : ℕ) × (suc n ≤ k + length ts) × ((y : Expr × Nesting × Tokens) → Gets (term_from go k b x l us) y → Gets (first_with go l all >>= λ p. term_from go n p.1 p.0 l p.2) y))
 first_term go b l ts x all us rest t e none g some = (begins_none all rest t e none, λ n le. (n, omega (arith, some), λ y h. then_ _ g h))

@@ -32,11 +32,11 @@ use Rattle.pvs_parser.proofs.DescentSteps.{Comes, after_yields, expect_yields, r
 
 -- ---- what is said of an answer
 
--- a front of the tokens derives the tree
+-- a prefix of the tokens derives the tree
 abbrev pub Front : Limit → (s : Nonterminal) → Nesting → Tokens → TreeOf s × Nesting × Tokens → Type 0
 Front limit s l ts p = (vs : Tokens) × Splits ts vs p.2 × Derives limit s l vs p.0 p.1
 
--- a front of the tokens derives the expression, and what follows does not go on with it
+-- a prefix of the tokens derives the expression, and what follows does not go on with it
 abbrev pub Formed : Limit → (Ending → Form) → Nesting → Tokens → Expr × Nesting × Tokens → Type 0
 Formed limit F l ts p = (e : Ending) × (vs : Tokens) × Splits ts vs p.2 × Derives limit (form (F e)) l vs p.0 p.1 × (pull_of p.2 < reach (F e))
 
@@ -126,7 +126,7 @@ item_sound go sound Item.Definition l ts = definition_sound go sound l ts
 
 -- ---- lists
 
--- a front of the tokens derives a list, which comes behind what was found
+-- a prefix of the tokens derives a list, which comes after what was found
 abbrev ListFront : Limit → (i : Item) → ℕ → List (ItemTree i) → Nesting → Tokens → List (ItemTree i) × Nesting × Tokens → Type 0
 ListFront limit i n found l ts p = (xs : List (ItemTree i)) × (vs : Tokens) × Splits ts vs p.2 × (p.0 ≡ found ++ xs) × (length xs ≤ n) × Derives limit (list i) l vs xs p.1
 
@@ -188,7 +188,7 @@ qualified_sound l ts us rest w xs d split i is =
 pub moved : {ts us vs rest : Tokens} → Splits ts us vs → vs ≡ rest → Splits ts us rest
 moved {ts = ts} {us = us} s e = subst (λ z. Splits ts us z) e s
 
--- behind an identifier
+-- after an identifier
 name_after_sound : (go : Readers) → Sound go → (l : Nesting) (t : Terminal) (us : Tokens) → IsId t → Yields (name_after go t.word l us) (NameFront go.limit l (t ∷ us))
 name_after_sound go sound l t us is = cases
     (λ vs a. let c = (after_yields kind.OpenBracket us).holds vs a in
@@ -204,7 +204,7 @@ name_after_sound go sound l t us is = cases
 abbrev pub FirstFront : Limit → Nesting → Tokens → Expr × Bool × Tokens → Type 0
 FirstFront limit l ts p = (vs : Tokens) × Splits ts vs p.2 × Derives limit (form (Form.Term p.1)) l vs p.0 l
 
--- what stands behind IF or ELSIF
+-- what stands after IF or ELSIF
 record CondFront (limit : Limit) (w : Word) (l : Nesting) (ts : Tokens) (p : Expr × Nesting × Tokens) : Type 0 where
   c : Expr
   x : Expr
@@ -298,7 +298,7 @@ empty_ends : (ts : Tokens) (n : ℕ) → length ts ≤ zero → pull_of ts < suc
 empty_ends [] n e = omega arith
 empty_ends (t ∷ ts) n e = absurd (omega (arith, e))
 
--- a term, and what is read behind it
+-- a term, and what is read after it
 abbrev pub TermFront : Limit → Nesting → Tokens → Tokens → Expr × Nesting × Tokens → Type 0
 TermFront limit l all ts p = (b : Bool) × (vs : Tokens) × Splits all vs p.2 × Derives limit (form (Form.Term b)) l vs p.0 p.1 × (pull_of p.2 < 6)
 
@@ -309,7 +309,7 @@ call_mark_sound limit false l ts f Q g = g
 pub splits_shorter : {ts us vs : Tokens} → Splits ts us vs → length vs ≤ length ts
 splits_shorter {ts = ts} {us = us} {vs = vs} s = let e : length ts ≡ length (us ++ vs) = ap length s.same in omega (arith, e, length-append us vs)
 
--- behind a token, a part is shorter than the whole
+-- after a token, a part is shorter than the whole
 shorter : {ts us vs rest : Tokens} {t : Terminal} (n : ℕ) → ts ≡ t ∷ us → Splits us vs rest → length ts ≤ suc n → length rest ≤ n
 shorter {ts = ts} {us = us} n e s g = let h : length ts ≡ suc (length us) = ap length e in omega (arith, g, h, splits_shorter s)
 
@@ -648,7 +648,7 @@ fun_sound go sound l k t u ts vs bs rest us s is lt d e arrow =
       Derives.fun_type l k p.1 vs f.0 bs p.0 t u a.0 is lt d arrow f.2 a.2,
     )))
 
--- an identifier, and a type behind a colon, up to the bar
+-- an identifier, and a type after a colon, up to the bar
 pub record BaseFront (limit : Limit) (l : Nesting) (ts : Tokens) (p : Word × TypeExpr × Nesting × Tokens) : Type 0 where
   pub t : Terminal
   pub u : Terminal

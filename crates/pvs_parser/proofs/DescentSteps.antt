@@ -69,7 +69,7 @@ pub compares_yields : (ts : Tokens) → Finds (compares ts) (Compares ts)
 compares_yields [] = missing
 compares_yields (t ∷ ts) = compares_one t ts (comparison t.kind) refl
 
--- behind an identifier
+-- after an identifier
 id_bind_one : {B : Type 0} (t : Terminal) (ts : Tokens) (f : Word × Tokens → Answer B) (Q : B → Type 0) → (IsId t → Yields (f (t.word, ts)) Q) → (b : Bool) → is_id t.kind ≡ b
     → Yields ((if b then Ok (t.word, ts) else stop (t ∷ ts)) >>= f) Q
 id_bind_one t ts f Q g true is = g is
@@ -121,7 +121,7 @@ room_one : {B : Type 0} (limit : Limit) (n m : Nesting) (ts : Tokens) (f : Nesti
 room_one limit n m ts f Q g true is = g (below_is limit (level n) is)
 room_one limit n m ts f Q g false is = none
 
--- behind a test that one more frame or mark may stand
+-- after a test that one more frame or mark may stand
 pub room : {B : Type 0} (limit : Limit) (n m : Nesting) (ts : Tokens) (f : Nesting → Answer B) {Q : B → Type 0} → (HasRoom limit n → Yields (f m) Q) → Yields (with_room limit n m ts >>= f) Q
 room limit n m ts f {Q = Q} g = room_one limit n m ts f Q g (is_below limit (level n)) refl
 
@@ -155,9 +155,9 @@ pub enough_entries : (limit : Limit) (n : ℕ) (ts : Tokens) → AtMost limit n 
 enough_entries (Some most) n ts some le = some
 enough_entries None n ts some le = le
 
--- ---- tokens in front of others
+-- ---- tokens before others
 
--- the first tokens, and those behind them
+-- the first tokens, and those after them
 pub record Splits (ts vs us : Tokens) : Type 0 where
   pub same : ts ≡ vs ++ us
 

@@ -20,7 +20,7 @@ pub list_turn : {A : Type 0} {x : Read (List A)} (starts : TerminalKind → Bool
 unfolding list_from
 list_turn starts reads n at found l ts below e = one_more (λ m. list_from starts reads m found l ts) n at below e
 
--- behind an item and a comma
+-- after an item and a comma
 pub list_goes : {A : Type 0} {x : Read (List A)} (starts : TerminalKind → Bool) (reads : Nesting → Tokens → Read A) (n at : ℕ) (found : List A) (l m : Nesting) (ts us vs : Tokens) (a : A)
     → at < n → x ≡ list_from starts reads (n - at) found l ts → reads l ts ≡ Ok (a, m, us) → after kind.Comma us ≡ Some vs
     → x ≡ list_from starts reads (n - (at + 1)) (found ++ a ∷ []) (without_marks m) vs

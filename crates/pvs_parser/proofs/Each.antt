@@ -8,7 +8,7 @@ use Rattle.pvs_parser.specs.code.Descent.{Answer}
 use Rattle.pvs_base.specs.Answers.{◌>>=◌}
 use Rattle.pvs_parser.specs.code.Steps.{each}
 
--- the tokens behind the type
+-- the tokens after the type
 unfoldable pub rest_of : Answer (TypeExpr × Tokens) → Answer Tokens
 rest_of read = read >>= λ p. Ok p.1
 

@@ -19,7 +19,7 @@ use Rattle.pvs_parser.proofs.UnitLocality.{alone}
 
 -- ---- two ways to part a list
 
--- the first part of one way is the same as that of the other, or goes on behind it, or stops before it
+-- the first part of one way is the same as that of the other, or goes on after it, or stops before it
 pub data Parts (xs us ys vs : Tokens) : Type 0 where
   same : xs ≡ ys → us ≡ vs → Parts xs us ys vs
   shorter : (t : Terminal) (zs : Tokens) → ys ≡ xs ++ t ∷ zs → us ≡ t ∷ (zs ++ vs) → Parts xs us ys vs
@@ -79,7 +79,7 @@ one_behind D E end fault ts before [] f g h k = h.0 ∙ sym k.0
 one_behind D E end fault ts before (t ∷ rest) f g h k =
     h.3 ∙ ap (λ z. record { pos = t.word.pos; code = code_of ts (length before) t.kind z }) (one_why D E before t h.1 k.1 h.2 k.2) ∙ sym k.3
 
--- a token behind tokens is refused, and tokens that begin so are within the bounds
+-- a token after tokens is refused, and tokens that begin so are within the bounds
 refused : (D : Limit → Tokens → Type 0) (E : Tokens → Type 0) (end : Pos) (fault : Option Fault) (ts before rest us zs : Tokens) (f : Fault) (t : Terminal) → IsFaultAfter D E end fault ts before rest f → rest ≡ t ∷ us → IsViablePrefix D (before ++ t ∷ zs) → ⊥
 refused D E end fault ts before [] us zs f t h e w = cc
 refused D E end fault ts before (v ∷ rest) us zs f t h e w =
@@ -106,7 +106,7 @@ no_first D E end fault ts f none d a = no_behind D E end fault ts a.before a.res
 
 -- ---- where reading stops
 
--- what is said of the tokens behind those that can be completed
+-- what is said of the tokens after those that can be completed
 abbrev pub HaltWhy : (Limit → Tokens → Type 0) → (Tokens → Type 0) → Tokens → Tokens → Reason → Type 0
 HaltWhy D E before rest reason.TooNested = (t : Terminal) × (more : Tokens) × (rest ≡ t ∷ more) × (t.kind ≡ kind.Comma → ⊥) × Begins D None (before ++ t ∷ [])
 HaltWhy D E before rest reason.WrongEnd = (t : Terminal) × (more : Tokens) × (rest ≡ t ∷ more) × IsId t × E before
@@ -163,7 +163,7 @@ not_read cut n e x o p f g lt h = of (subst (λ z. Agrees cut alone n z (Ok x)) 
 left_more : (rest more : Tokens) (t : Terminal) (n : ℕ) → rest ≡ t ∷ more → length rest ≡ n → length more < n
 left_more rest more t n e f = omega (arith, ap length e, f)
 
--- behind these tokens, another one
+-- after these tokens, another one
 pushed : (ts before rest more : Tokens) (t : Terminal) → ts ≡ before ++ rest → rest ≡ t ∷ more → ts ≡ (before ++ t ∷ []) ++ more
 pushed ts before rest more t e f = e ∙ ap (λ z. before ++ z) f ∙ sym (append_assoc before (t ∷ []) more)
 
@@ -227,7 +227,7 @@ refused_at D E read r ts before rest more t e split f left stop reason.Unexpecte
     let never : Begins D None (before ++ t ∷ []) → ⊥ = λ b. not_nested e.reason (inl is) (not_free D E read r ts before rest more t e split f left stop b) in
     (λ w. never (within_free D r.wider (before ++ t ∷ []) w), (never, h t more f))
 
--- the number of a token behind others
+-- the number of a token after others
 at_number : (before more : Tokens) (t : Terminal) → slice_get (before ++ t ∷ more) (length before) ≡ Some t
 at_number [] more t = refl
 at_number (v ∷ before) more t = at_number before more t
@@ -242,7 +242,7 @@ err_is_no_ok e x o f g = cc
 err_same : {A : Type 0} (o : Result A Fault) (a b : Fault) → o ≡ Err a → o ≡ Err b → a ≡ b
 err_same o a b f g = cc
 
--- what stands behind the tokens that can be completed
+-- what stands after the tokens that can be completed
 fault_behind : {A : Type 0} (D : Limit → Tokens → Type 0) (E : Tokens → Type 0) (read : Limit → Tokens → Answer A) → Reading D E read → (end : Pos) (fault : Option Fault) (ts : Tokens) (e : Stop) → read language_limit ts ≡ Err e → (before rest : Tokens) → ts ≡ before ++ rest → length rest ≡ e.left
     → HaltWhy D E before rest e.reason → IsFaultAfter D E end fault ts before rest (fault_of end fault ts e)
 fault_behind D E read r end fault ts e stop before [] split left why = (

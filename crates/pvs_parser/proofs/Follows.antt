@@ -7,7 +7,7 @@ use Rattle.pvs_parser.specs.declared.terminal.TerminalKind.TheVariants as kind
 use Rattle.pvs_parser.specs.Language.{Tokens, Plain, Bound, Form, Item}
 use Rattle.pvs_parser.specs.code.Descent.{after}
 
--- How tightly a terminal binds to the form before it: a connective, an equality, and what stands behind a term.
+-- How tightly a terminal binds to the form before it: a connective, an equality, and what stands after a term.
 abbrev pub pull : TerminalKind → ℕ
 pull kind.Iff = 1
 pull kind.Implies = 2

@@ -33,7 +33,7 @@ plus_sound t is ts = plus_of t is ts (after kind.Plus ts) refl
 
 -- ---- one formal
 
--- what stands behind names and a colon
+-- what stands after names and a colon
 abbrev KindFront : Limit → Tokens → List Word → Terminal → Tokens → List Formal × Tokens → Type 0
 KindFront limit ns ws u ts p = (vs : Tokens) × Splits ts vs p.1 × DerivesFormal limit (ns ++ u ∷ vs) p.0
 
@@ -80,7 +80,7 @@ from_sound limit (suc n) most before ts =
     (λ us a. weaken (λ q g. more_formals limit n most before ts p f us ((after_yields kind.Comma p.1).holds us a) q g) (from_sound limit n (fewer limit n most) (before ++ p.0) us))
     (λ a. here (1, p.0, f.0, f.1, refl, omega arith, DerivesFormals.one f.0 p.0 f.2)))
 
--- formals behind a bracket
+-- formals after a bracket
 formals_sound : (limit : Limit) (t : Terminal) (ts us : Tokens) → ts ≡ t ∷ us → Is kind.OpenBracket t → Yields (formals limit us) (Fore (DerivesFormalPart limit) ts)
 formals_sound limit t ts us e is =
     room limit outermost (in_frame outermost) us _ (λ lt. bind (from_sound limit (entries limit us) (entries_at_most limit us) [] us) (λ p f. bind (expect_yields kind.CloseBracket p.1) (λ vs a. here (

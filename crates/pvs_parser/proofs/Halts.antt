@@ -110,7 +110,7 @@ room_one : {B : Type 0} (limit : Limit) (n m : Nesting) (ts : Tokens) (f : Nesti
 room_one limit n m ts f Q q g true is = g (below_is limit (level n) is)
 room_one limit n m ts f Q q g false is = stopped q
 
--- behind a test that one more frame or mark may stand
+-- after a test that one more frame or mark may stand
 pub room_then : {B : Type 0} (limit : Limit) (n m : Nesting) (ts : Tokens) (f : Nesting → Answer B) {Q : Stop → Type 0} → Q (deep ts) → (HasRoom limit n → Stops (f m) Q) → Stops (with_room limit n m ts >>= f) Q
 room_then limit n m ts f {Q = Q} q g = room_one limit n m ts f Q q g (is_below limit (level n)) refl
 
@@ -119,7 +119,7 @@ room_or : {B : Type 0} (limit : Limit) (n m : Nesting) (ts : Tokens) (f : Nestin
 room_or limit n m ts f Q q g true is = g (below_is limit (level n) is)
 room_or limit n m ts f Q q g false is = stopped (q (λ lt. let other : is_below limit (level n) ≡ true = is_below_is limit (level n) lt in cc))
 
--- the same, where what is said of the stop wants that there is no room
+-- the same, where what is said of the stop needs that no more may stand
 pub room_else : {B : Type 0} (limit : Limit) (n m : Nesting) (ts : Tokens) (f : Nesting → Answer B) {Q : Stop → Type 0} → ((HasRoom limit n → ⊥) → Q (deep ts)) → (HasRoom limit n → Stops (f m) Q) → Stops (with_room limit n m ts >>= f) Q
 room_else limit n m ts f {Q = Q} q g = room_or limit n m ts f Q q g (is_below limit (level n)) refl
 
@@ -155,7 +155,7 @@ no_limit = record { below = λ n lt. any n }
 
 -- ---- what is said of a stop
 
--- A list had as many entries as it may, and the tokens end in the comma behind them: those before the comma can be
+-- A list had as many entries as it may, and the tokens end in the comma after them: those before the comma can be
 -- completed within the limit.
 pub record Full (limit : Limit) (K : Limit → Tokens → Type 0) (before : Tokens) : Type 0 where
   pub front : Tokens
@@ -215,7 +215,7 @@ nested {limit = limit} {before = before} {us = us} {t = t} s other k h = record 
 
 -- ---- places in tokens
 
--- The tokens us stand at the end of ts, behind what f puts before them.
+-- The tokens us stand at the end of ts, after what f puts before them.
 pub record Place (ts : Tokens) (f : Tokens → Tokens) (us : Tokens) : Type 0 where
   pub same : ts ≡ f us
   pub through : (p q : Tokens) → f (p ++ q) ≡ f p ++ q
@@ -232,7 +232,7 @@ past {vs = vs} {f = f} s g = record { same = s.same ∙ ap (λ z. vs ++ z) g.sam
 pub upto : {ts us p rest : Tokens} {f : Tokens → Tokens} → Place ts f us → Splits us p rest → Splits ts (f p) rest
 upto {p = p} {rest = rest} {f = f} g s = record { same = g.same ∙ ap f s.same ∙ g.through p rest }
 
--- what could be completed at a place is completed behind what stands before it
+-- what could be completed at a place is completed after what stands before it
 why_inner : (G K : Limit → Tokens → Type 0) (f : Tokens → Tokens) → ((p q : Tokens) → f (p ++ q) ≡ f p ++ q) → ((p : Tokens) → G None p → K None (f p)) → (before rest : Tokens) (r : Reason) → Why G before rest r → Why K (f before) rest r
 why_inner G K f through k before rest reason.Unexpected y = tt
 why_inner G K f through k before rest reason.TooNested y = (y.0, y.1, y.2, y.3, subst (λ z. K None z) (through before (y.0 ∷ [])) (k (before ++ y.0 ∷ []) y.4))

@@ -51,7 +51,7 @@ StartBegun w (start.Chain c) l p = Begun w (λ e. Form.Chain c e) l p
 StartBegun w start.Operand l p = Begun w (λ e. Form.Operand e) l p
 StartBegun w start.Otherwise l p = Completes w (form Form.Otherwise) l p
 
--- to a list that has no more entries than it may, behind so many
+-- to a list that has no more entries than it may, after so many
 pub record ListBegun (w : Limit) (i : Item) (found : ℕ) (l : Nesting) (p : Tokens) : Type 0 where
   pub all : Tokens
   pub more : Tokens
@@ -68,11 +68,11 @@ made {m = m} {all = all} {more = more} {x = x} s d = record { all = all; more = 
 pub completed : {w : Limit} {s : Nonterminal} {l m : Nesting} {ts : Tokens} {x : TreeOf s} → Derives w s l ts x m → Completes w s l ts
 completed {ts = ts} d = made (record { same = sym (append-nil ts) }) d
 
--- the tokens that complete them, what they are completed to, and the nesting behind it
+-- the tokens that complete them, what they are completed to, and the nesting after it
 pub completion : {w : Limit} {s : Nonterminal} {l : Nesting} {p : Tokens} → Completes w s l p → (c : Tokens) × (x : TreeOf s) × (m : Nesting) × Derives w s l (p ++ c) x m
 completion {w = w} {s = s} {l = l} c = (c.more, c.tree, c.behind, subst (λ z. Derives w s l z c.tree c.behind) c.split.same c.derives)
 
--- with more behind
+-- with more after them
 pub extend : {all p more : Tokens} (us : Tokens) → Splits all p more → Splits (all ++ us) p (more ++ us)
 extend {p = p} {more = more} us s = record { same = ap (λ z. z ++ us) s.same ∙ append_assoc p more us }
 

@@ -79,7 +79,7 @@ pub at_most_zero : (limit : Limit) (n : ℕ) → AtMost limit (suc n) → AtMost
 at_most_zero (Some most) n le = omega (arith, le)
 at_most_zero None n le = le
 
--- behind the comma that follows the last entry that a list may have
+-- after the comma that follows the last entry that a list may have
 comma_halts : {limit : Limit} (i : Item) (k : ℕ) {l j : Nesting} {x : ItemTree i} (ts vs rest us : Tokens) → Splits ts vs rest → (c : Comes kind.Comma rest us) → Derives limit (item i) l vs x j → IsBelow limit k → (r : Reason)
     → Why (λ w p. ListBegun w i k l p) (vs ++ c.0 ∷ []) us r → Halts limit (λ w p. ListBegun w i k l p) ts (record { left = length us; reason = r })
 comma_halts i k ts vs rest us s c d lt r y = record {
@@ -260,14 +260,14 @@ module _ (go : Readers) (sound : Sound go) (a : ℕ) (halting : Halting go a) wh
       bind (list_with_sound go sound i (in_frame l) us) (into (list_with_stops i (below_zero go.limit (level l) lt) (in_frame l) us small) place k) (λ p f.
       expect_then end p.2 _ (unexpected (upto place f.1) (λ w wide. k w wide f.0 (completed (wider wide f.2)))) (λ vs b. goes))
 
-  -- a list in a frame, at a place behind the sign that opens it
+  -- a list in a frame, at a place after the sign that opens it
   pub framed_stops : (i : Item) (end : TerminalKind) (l : Nesting) {K : Limit → Tokens → Type 0} {ts us : Tokens} {f : Tokens → Tokens} → Place ts f us → Halts go.limit K ts (deep us)
       → (HasRoom go.limit l → (w : Limit) → Wider go.limit w → (p : Tokens) → Completes w (list i) (in_frame l) p → K w (f p)) → length us < a → Stops (framed_with go i end l us) (Halts go.limit K ts)
   framed_stops i end l {us = us} place too_deep k small = room_then go.limit l (in_frame l) us _ too_deep (λ lt. inside_stops i end l lt place (k lt) small)
 
   -- ---- names
 
-  -- behind an identifier
+  -- after an identifier
   name_after_stops : (l : Nesting) (t : Terminal) (us : Tokens) → IsId t → length us < a → Stops (name_after go t.word l us) (Halts go.limit (λ w p. Completes w name l p) (t ∷ us))
   name_after_stops l t us is small = cases
       (λ vs b. let c = (after_yields kind.OpenBracket us).holds vs b in
@@ -312,7 +312,7 @@ module _ (go : Readers) (sound : Sound go) (a : ℕ) (halting : Halting go a) wh
   first_stops l [] small = stopped (unexpected nothing (λ w wide. some_term))
   first_stops l (t ∷ ts) small = first_of_stops l t ts t.kind refl (omega (arith, small))
 
-  -- behind a term
+  -- after a term
   call_stops : (b : Bool) (x : Expr) (l0 l : Nesting) (all vs ts us : Tokens) → Splits all vs ts → Derives go.limit (form (Form.Term b)) l0 vs x l → Comes kind.Open ts us → length us < a
       → Stops (call_with go b x l us) (Halts go.limit (λ w p. TermBegun w l0 p) all)
   call_stops b x l0 l all vs ts us s d c small =
@@ -346,7 +346,7 @@ module _ (go : Readers) (sound : Sound go) (a : ℕ) (halting : Halting go a) wh
 
   -- ---- NOT, binders and LET
 
-  -- a colon and a body, at a place behind the bindings
+  -- a colon and a body, at a place after the bindings
   body_stops : (bs : List Binding) (b : BinderWord) (w : Word) (l : Nesting) {K : Limit → Tokens → Type 0} {ts us : Tokens} {f : Tokens → Tokens} → Place ts f us → ((v : Limit) → Wider go.limit v → K v (f []))
       → ((v : Limit) → Wider go.limit v → (c : Terminal) → Is kind.Colon c → (p : Tokens) → Begun v (λ e. Form.Chain connective.Iff e) l p → K v (f (c ∷ p))) → length us < a → Stops (body_with go bs b w l us) (Halts go.limit K ts)
   body_stops bs b w l {us = us} place before body small = expect_then kind.Colon us _ (unexpected (upto place nothing) before) (λ vs c.
@@ -458,7 +458,7 @@ module _ (go : Readers) (sound : Sound go) (a : ℕ) (halting : Halting go a) wh
 
   -- ---- types
 
-  -- behind the components of a domain and the arrow
+  -- after the components of a domain and the arrow
   fun_stops : (l k : Nesting) (t u : Terminal) (ts vs : Tokens) (bs : List Binding) (end us : Tokens) → Splits ts vs end → Is kind.OpenBracket t → HasRoom go.limit l → Derives go.limit (list Item.Component) (in_frame l) vs bs k
       → end ≡ u ∷ us → Is kind.Arrow u → length us < a → Stops (fun_type_with go l t.word bs k us) (Halts go.limit (λ w p. Completes w type_ l p) (t ∷ ts))
   fun_stops l k t u ts vs bs end us s is lt d e arrow small =

@@ -26,7 +26,7 @@ use Rattle.pvs_parser.proofs.HaltsUnitsSteps.{TextWhy, TextHalts, text_into}
 use Rattle.pvs_parser.proofs.HaltsUnitsTheories.{TheoryBegun, theory_stops}
 use Rattle.pvs_parser.proofs.HaltsUnitsProofs.{ProofBegun, proof_stops}
 
--- ---- theories and proofs one behind another
+-- ---- theories and proofs one after another
 
 abbrev ItemsBegun : List ℕ → Limit → Tokens → Type 0
 ItemsBegun text w p = Starts (DerivesItems w text) p
@@ -46,7 +46,7 @@ widen_item : {limit w : Limit} → Wider limit w → (text : List ℕ) (ts : Tok
 widen_item wide text ts (item.Theory t) d = widen_theory wide text ts t d
 widen_item wide text ts (item.Proof p) d = widen_proof wide ts p d
 
--- fewer tokens stand behind an item than with it
+-- fewer tokens stand after an item than with it
 fewer : (limit : Limit) (text : List ℕ) (n : ℕ) (ts : Tokens) (p : Item × Tokens) → Fore (IsItem limit text) ts p → length ts ≤ suc n → length p.1 ≤ n
 fewer limit text n ts p f le =
     let b = item_some limit text f.0 p.0 f.2 in
@@ -69,13 +69,13 @@ abbrev pub UnitBegun : Limit → List ℕ → Tokens → Type 0
 UnitBegun w text p = (more : Tokens) × (u : tree.Unit) × DerivesUnit w text (p ++ more) u
 
 -- Why reading stops between these tokens: an identifier is unexpected only where no END stands before it; a token that is too much is no comma,
--- and one with which the tokens before it can be completed without a limit; a wrong end is an identifier behind END.
+-- and one with which the tokens before it can be completed without a limit; a wrong end is an identifier after END.
 abbrev pub UnitWhy : List ℕ → Tokens → Tokens → Reason → Type 0
 UnitWhy text before rest reason.Unexpected = (t : Terminal) (more : Tokens) → rest ≡ t ∷ more → IsId t → AwaitsName before → ⊥
 UnitWhy text before rest reason.TooNested = (t : Terminal) × (more : Tokens) × (rest ≡ t ∷ more) × NoComma t × UnitBegun None text (before ++ t ∷ [])
 UnitWhy text before rest reason.WrongEnd = (t : Terminal) × (more : Tokens) × (rest ≡ t ∷ more) × IsId t × AwaitsName before
 
--- The tokens before a stop can be completed to a unit: without a limit; and within the limit, or else they are such tokens and the comma behind the last
+-- The tokens before a stop can be completed to a unit: without a limit; and within the limit, or else they are such tokens and the comma after the last
 -- entry that a list may have.
 pub record UnitHalts (limit : Limit) (text : List ℕ) (ts : Tokens) (e : Stop) : Type 0 where
   pub before : Tokens

@@ -94,9 +94,9 @@ assumed_colon {w = w} {ns = ns} {ws = ws} u d colon =
 assumption_begun : {w : Limit} {p : Tokens} (v u t : Terminal) → IsId v → Is kind.Colon u → Is kind.Assumption t → ExprBegun w p → AssumedBegun w (v ∷ u ∷ t ∷ p)
 assumption_begun v u t is colon word g = let c = g.1 in started _ (put refl (put refl (put refl c.split))) (DerivesAssumed.assumption_of g.0 c.all c.tree c.behind v u t is colon word c.derives)
 
--- ---- what stands behind names and a colon
+-- ---- what stands after names and a colon
 
--- the place behind one name is that behind its terminal
+-- the place after one name is that after its terminal
 one_place : {all ts ns : Tokens} (u t : Terminal) → ns ≡ t ∷ [] → Place all (λ p. ns ++ u ∷ p) ts → Place all (λ p. t ∷ u ∷ p) ts
 one_place {all = all} {ts = ts} u t e place = subst (λ z. Place all (λ p. z ++ u ∷ p) ts) e place
 
@@ -143,7 +143,7 @@ types_stops limit ns (w ∷ []) u t d colon is {ts = ts} place =
     (λ a. goes)
 types_stops limit ns (w ∷ v ∷ ws) u t d colon is place = goes
 
--- the word of a formula stands first, behind names and a colon
+-- the word of a formula stands first, after names and a colon
 formulas_stops : (limit : Limit) (ns : Tokens) (ws : List Word) (u t : Terminal) (f : FormulaWord) {K : Limit → Tokens → Type 0} → DerivesIds limit ns ws → {all ts : Tokens} → Place all (λ p. ns ++ u ∷ p) (t ∷ ts) → ((w : Limit) → Wider limit w → K w (ns ++ u ∷ []))
     → ((v : Terminal) → IsId v → (w : Limit) → Wider limit w → (p : Tokens) → ExprBegun w p → K w (v ∷ u ∷ t ∷ p)) → Stops (formulas limit ws f (t ∷ ts) ts) (Halts limit K all)
 formulas_stops limit ns [] u t f d place before k = stopped (unexpected (upto place nothing) before)

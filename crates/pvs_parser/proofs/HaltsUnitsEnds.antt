@@ -207,7 +207,7 @@ pub last_plain : (ts : Tokens) → NoEnd ts → last_is_end false ts ≡ false
 last_plain [] a = refl
 last_plain (t ∷ ts) a = ap (λ b. last_is_end b ts) a.0 ∙ last_plain ts a.1
 
--- behind a terminal
+-- after a terminal
 pub last_behind : (t : Terminal) (ts : Tokens) → is_end t.kind ≡ false → NoEnd ts → last_is_end true (t ∷ ts) ≡ false
 last_behind t ts e a = ap (λ b. last_is_end b ts) e ∙ last_plain ts a
 

@@ -67,7 +67,7 @@ type_stops limit l ts = then_ (read_type_stops limit (length ts + 1) l ts (turns
 -- ---- lists of entries that begin with an identifier
 
 -- What is said of whole entries, of tokens that can be completed to an entry, and of those that can be completed to a
--- list that has no more entries than it may, behind so many.
+-- list that has no more entries than it may, after so many.
 record Listing (Entry One : Limit → Tokens → Type 0) (L : Limit → ℕ → Tokens → Type 0) : Type 0 where
   widens : (limit w : Limit) → Wider limit w → (vs : Tokens) → Entry limit vs → Entry w vs
   whole : (w : Limit) (vs : Tokens) → Entry w vs → One w vs
@@ -80,7 +80,7 @@ id_comma : (t : Terminal) → IsId t → NoComma t
 id_comma t is comma = let e : is_id t.kind ≡ false = ap is_id comma in cc
 
 module _ {Entry One : Limit → Tokens → Type 0} {L : Limit → ℕ → Tokens → Type 0} (g : Listing Entry One L) {limit : Limit} (k : ℕ) where
-  -- behind the comma that follows the last entry that a list may have
+  -- after the comma that follows the last entry that a list may have
   comma_halts : (ts vs rest us : Tokens) → Splits ts vs rest → (c : Comes kind.Comma rest us) → Entry limit vs → IsBelow limit k → (r : Reason) → Why (λ w p. L w k p) (vs ++ c.0 ∷ []) us r
       → Halts limit (λ w p. L w k p) ts (record { left = length us; reason = r })
   comma_halts ts vs rest us s c d lt r y = record {
@@ -116,7 +116,7 @@ module _ {Entry One : Limit → Tokens → Type 0} {L : Limit → ℕ → Tokens
 
 -- ---- identifiers
 
--- tokens that can be completed to identifiers, no more than there may be behind so many
+-- tokens that can be completed to identifiers, no more than there may be after so many
 record IdsBegun (w : Limit) (found : ℕ) (p : Tokens) : Type 0 where
   all : Tokens
   more : Tokens
@@ -237,7 +237,7 @@ formal_stops limit some ts = bind (ids_sound limit ts) (into (ids_stops limit so
     expect_then kind.Colon p.1 _ (unexpected f.1 (λ w wide. formal_names (whole_of _ (widen_ids wide f.0 p.0 f.2)))) (λ us c.
     formal_after_stops limit f.0 p.0 c.0 f.2 c.2 us (past f.1 (behind c.1 first))))
 
--- tokens that can be completed to formals, no more than there may be behind so many
+-- tokens that can be completed to formals, no more than there may be after so many
 record FormalsBegun (w : Limit) (found : ℕ) (p : Tokens) : Type 0 where
   n : ℕ
   all : Tokens
@@ -376,7 +376,7 @@ instances_stops limit (suc n) found ts =
     into (instances_stops limit n (found ++ p.0 ∷ []) us) (past f.1 (behind c.1 first)) (λ w wide q g. more_instances c.0 (wider wide f.2.1) c.2 g))
     (λ a. goes))
 
--- behind IMPORTING
+-- after IMPORTING
 pub importing_stops : (limit : Limit) (t : Terminal) (ts us : Tokens) → ts ≡ t ∷ us → Is kind.Importing t → Stops (importing limit us) (Halts limit (λ w p. Starts (DerivesImporting w) p) ts)
 importing_stops limit t ts us e is =
     then_ (into (instances_stops limit (length us + 1) [] us) (behind e first) (λ w wide p g. started _ (put refl g.split) (DerivesImporting.importing g.all g.tree t is g.derives))) (λ p. goes)

@@ -138,7 +138,7 @@ proof_last : {w : Limit} {vs : Tokens} (t u v d x y z : Terminal) → IsBelow w 
 proof_last {vs = vs} t u v d x y z lt opened word is dot is2 opened2 b close =
     started _ (put refl (put refl (put refl (put refl (put refl (put refl (glue both (alone refl)))))))) (DerivesProof.proof vs t u v d x y z (tok kind.Close) opened word is dot is2 opened2 lt b close refl)
 
--- behind the parenthesis of a proof
+-- after the parenthesis of a proof
 target_stops : (limit : Limit) → IsBelow limit 0 → (t : Terminal) (ts us : Tokens) → ts ≡ t ∷ us → Is kind.Open t → Stops (target us) (TextHalts limit ProofBegun ts)
 target_stops limit some t ts us e opened =
     expect_then kind.Proof us _ (text_unexpected (alone e) (λ w wide. proof_open t (wide.below 0 some) opened) (λ z more same id. ap is_end opened)) (λ xs a.
@@ -151,7 +151,7 @@ inner_stops : {limit : Limit} {K : Limit → Tokens → Type 0} {all : Tokens} (
 inner_stops t us g some true is = then_ g (λ p. goes)
 inner_stops {limit = limit} t us g some false is = let other : is_below limit 0 ≡ true = is_below_is limit 0 some in absurd cc
 
--- a script, at a place behind the names
+-- a script, at a place after the names
 script_stops : {limit : Limit} {K : Limit → Tokens → Type 0} {all : Tokens} {f : Tokens → Tokens} (ts : Tokens) → IsBelow limit 0 → Place all f ts → last_is_end true (f []) ≡ false → ((w : Limit) → Wider limit w → K w (f []))
     → ((y : Terminal) → Is kind.Open y → (w : Limit) → Wider limit w → (p : Tokens) → ClosesBegun w 0 p → K w (f (y ∷ p))) → Stops (script limit ts) (TextHalts limit K all)
 script_stops [] some place plain before k = stopped (text_unexpected (upto place nothing) before (λ z more same id. plain))

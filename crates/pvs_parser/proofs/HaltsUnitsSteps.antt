@@ -14,7 +14,7 @@ use Rattle.pvs_parser.proofs.DescentSteps.{Splits}
 use Rattle.pvs_parser.proofs.Halts.{Stops, stopped, weaken, at, deep, Wider, no_limit, same_limit, Full, NoComma, Why, Halts, Place, upto, within_inner}
 use Rattle.pvs_parser.proofs.HaltsUnitsEnds.{NoEnd, last_is_end, last_of, last_plain, last_any}
 
--- An identifier is unexpected only behind a token that is not END. A wrong end is an identifier behind END.
+-- An identifier is unexpected only after a token that is not END. A wrong end is an identifier after END.
 abbrev pub TextWhy : (Limit → Tokens → Type 0) → Tokens → Tokens → Reason → Type 0
 TextWhy K before rest reason.Unexpected = (t : Terminal) (more : Tokens) → rest ≡ t ∷ more → IsId t → last_is_end true before ≡ false
 TextWhy K before rest reason.TooNested = Why K before rest reason.TooNested
@@ -82,7 +82,7 @@ id_one : {B : Type 0} (t : Terminal) (ts : Tokens) (f : Word × Tokens → Answe
 id_one t ts f Q q g true is = g is
 id_one t ts f Q q g false is = stopped (q (other_first t ts is))
 
--- behind an identifier, where what is said of the stop wants that none stands first
+-- after an identifier, where what is said of the stop needs that none stands first
 pub id_else : {B : Type 0} (ts : Tokens) (f : Word × Tokens → Answer B) {Q : Stop → Type 0} → (NoId ts → Q (at ts)) → ((t : Terminal) (us : Tokens) → ts ≡ t ∷ us → IsId t → Stops (f (t.word, us)) Q) → Stops (id ts >>= f) Q
 id_else [] f q g = stopped (q nothing_first)
 id_else (t ∷ ts) f {Q = Q} q g = id_one t ts f Q q (λ is. g t ts refl is) (is_id t.kind) refl
@@ -112,7 +112,7 @@ pub text_into : {A : Type 0} {o : Answer A} {limit : Limit} {G K : Limit → Tok
     → ((w : Limit) → Wider limit w → (p : Tokens) → G w p → K w (f p)) → Stops o (TextHalts limit K ts)
 text_into g place k = weaken (λ e h. text_inner place k h) g
 
--- ---- parts in which no END stands, behind a token that is not END
+-- ---- parts in which no END stands, after a token that is not END
 
 part_why : (G K : Limit → Tokens → Type 0) (f : Tokens → Tokens) → ((p q : Tokens) → f (p ++ q) ≡ f p ++ q) → last_is_end true (f []) ≡ false → ((p : Tokens) → G None p → K None (f p)) → (before rest : Tokens) → NoEnd before → (r : Reason) → Why G before rest r
     → TextWhy K (f before) rest r

@@ -29,7 +29,7 @@ use Rattle.pvs_parser.proofs.HaltsUnitsParts.{Starts, started, whole_of, beyond,
 use Rattle.pvs_parser.proofs.HaltsUnitsDecls.{declaration_stops, assumed_stops}
 use Rattle.pvs_parser.proofs.HaltsUnitsSteps.{TextHalts, text_unexpected, text_wrong, id_else, part_into}
 
--- ---- declarations one behind another
+-- ---- declarations one after another
 
 no_more : {D : Tokens → List Decl → Type 0} {p : Tokens} → Starts D p → Starts (DerivesMany D) p
 no_more g = started _ (extend [] g.split) (DerivesMany.more g.all [] [] g.tree [] g.derives DerivesSemicolon.none DerivesMany.none)
@@ -143,7 +143,7 @@ theory_decls {us = us} {hs = hs} text h d g =
     started _ (put refl (glue both (put refl (put refl (put refl (glue both (extend (end_tokens h.t) g.split)))))))
     (DerivesTheory.theory h.ts us g.all h.fs hs g.tree h.t h.u h.v h.b (tok kind.End) h.t h.id h.formals h.colon h.word h.begin d g.derives refl h.id refl)
 
--- tokens behind which nothing stands
+-- tokens after which nothing stands
 and_nothing : {X : Type 0} {D : Tokens → X → Type 0} (ts : Tokens) (x : X) → D ts x → Starts D (ts ++ [])
 and_nothing {D = D} ts x d = subst (λ z. Starts D z) (sym (append-nil ts)) (whole_of x d)
 

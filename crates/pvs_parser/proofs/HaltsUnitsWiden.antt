@@ -65,7 +65,7 @@ widen_assumed wide _ _ (DerivesAssumed.importing ts ds d) = DerivesAssumed.impor
 widen_assumed wide _ _ (DerivesAssumed.variables ts ds d) = DerivesAssumed.variables ts ds (widen_variables wide ts ds d)
 widen_assumed wide _ _ (DerivesAssumed.assumption_of e ts x m t u v is colon word d) = DerivesAssumed.assumption_of e ts x m t u v is colon word (wider wide d)
 
--- declarations one behind another, of a kind that is one of another kind
+-- declarations one after another, of a kind that is one of another kind
 pub widen_many : {D E : Tokens → List Decl → Type 0} → ((ts : Tokens) (ds : List Decl) → D ts ds → E ts ds) → (ts : Tokens) (ds : List Decl) → DerivesMany D ts ds → DerivesMany E ts ds
 widen_many f _ _ DerivesMany.none = DerivesMany.none
 widen_many f _ _ (DerivesMany.more ts ss us ds es d s e) = DerivesMany.more ts ss us ds es (f ts ds d) s (widen_many f us es e)

@@ -32,7 +32,7 @@ read_entries_stops limit a i lt l ts small =
     subst (λ z. IsBelow z 0 → Stops (list_with (reader limit a) i l ts) (Halts z (λ w p. Completes w (list i) l p) ts)) (reader_limit limit a)
     (λ lt. list_with_stops (reader limit a) (sound_reader limit a) a (reader_halting limit a) i lt l ts small) lt
 
--- A list in a frame, at a place in tokens behind the sign that opens it. Where that sign nests too deep, the stop is at it.
+-- A list in a frame, at a place in tokens after the sign that opens it. Where that sign nests too deep, the stop is at it.
 pub read_list_stops : (limit : Limit) (a : ℕ) (i : Item) (end : TerminalKind) (l : Nesting) {K : Limit → Tokens → Type 0} {ts us : Tokens} {f : Tokens → Tokens} → Place ts f us → Halts limit K ts (deep us)
     → (HasRoom limit l → (w : Limit) → Wider limit w → (p : Tokens) → Completes w (list i) (in_frame l) p → K w (f p)) → length us < a → Stops (framed_with (reader limit a) i end l us) (Halts limit K ts)
 read_list_stops limit a i end l {K = K} {ts = ts} {us = us} {f = f} place too_deep k small =

@@ -15,7 +15,7 @@ use Rattle.pvs_parser.proofs.DescentSteps.{Comes, after_yields, id_bind, AtMost,
 use Rattle.pvs_parser.proofs.DescentSound.{crowded_yields}
 use Rattle.pvs_parser.proofs.Deeper.{Fore}
 
--- a front of the tokens is names, which come behind those found
+-- a prefix of the tokens is names, which come after those found
 abbrev NamesFront : Limit → ℕ → List Word → Tokens → List Word × Nesting × Tokens → Type 0
 NamesFront limit n before ts p = (ws : List Word) × (vs : Tokens) × Splits ts vs p.2 × (p.0 ≡ before ++ ws) × (length ws ≤ n) × DerivesIds limit vs ws
 
@@ -101,7 +101,7 @@ comma_no_open : same_kind kind.Comma kind.Open ≡ false
 unfolding same_kind
 comma_no_open = refl
 
--- the first of the names, behind which no parenthesis comes
+-- the first of the names, after which no parenthesis comes
 pub ids_front : (limit : Limit) (ts : Tokens) (ws : List Word) → DerivesIds limit ts ws → (t : Terminal) × (vs : Tokens) × (ts ≡ t ∷ vs) × IsId t × ((us : Tokens) → after kind.Open us ≡ None → after kind.Open (vs ++ us) ≡ None)
 ids_front limit _ _ (DerivesIds.one t is) = (t, [], refl, is, λ us shut. shut)
 ids_front limit _ _ (DerivesIds.more t u ts ws is comma d lt) = (t, u ∷ ts, refl, is, λ us shut. after_other kind.Open kind.Comma u (ts ++ us) comma comma_no_open)

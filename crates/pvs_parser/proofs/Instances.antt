@@ -1,4 +1,4 @@
--- Instances of theories behind IMPORTING: what is read is in the grammar, and what is in the grammar is read.
+-- Instances of theories after IMPORTING: what is read is in the grammar, and what is in the grammar is read.
 use Rattle.std.proofs.Common.{◌≡◌, ◌∙◌, ◌⊎◌, inl, inr, ℕ, zero, suc, ◌+◌, ◌≤◌, List, [], ◌∷◌, ◌++◌, length, map, false, None, refl, sym, subst, append_assoc, length-append, arith}
 use Rattle.pvs_parser.specs.declared.nesting.Nesting.{Nesting}
 use Rattle.pvs_parser.specs.declared.terminal.Terminal.{Terminal}

@@ -1,4 +1,4 @@
--- Reading expressions and types looks at no token behind the one where it stops.
+-- Reading expressions and types looks at no token after the one where it stops.
 use Rattle.std.proofs.Common.{◌≡◌, ◌∙◌, ℕ, zero, suc, ◌+◌, ◌-◌, ◌<◌, ◌≤◌, ◌||◌, ◌⊎◌, inl, inr, Bool, true, false, if◌then◌else◌, List, [], ◌∷◌, ◌++◌, length, Option, Some, None, Ok, Err, refl, sym, ap, subst, arith}
 use Rattle.pvs_parser.specs.declared.failure.Reason.TheVariants as reason
 use Rattle.pvs_parser.specs.declared.nesting.Nesting.{Nesting}
@@ -174,7 +174,7 @@ item_goes cut n go other d Item.Definition l = definition_goes cut n go other d 
 
 -- ---- lists
 
--- so many turns are enough for the tokens before the cut and these behind it
+-- so many turns are enough for the tokens before the cut and these after it
 abbrev pub HasSpace : Mode → Tokens → ℕ → ℕ → Type 0
 HasSpace Mode.Past behind m k = Unit {0}
 HasSpace Mode.Before behind m k = m + length behind ≤ k
@@ -388,7 +388,7 @@ project_goes cut n go other d x l mode m low ts us h =
     room_then cut three mode m go.limit other.limit d.rooms l (with_mark l) _ _ ts us h
     (number_then cut three mode m n (low_more mode m n low) _ _ ts us (weaken cut mode m ts us h) (λ a la w vs ws took. done_three cut a (m - 1) (expr.Project x w) (with_mark l) vs ws (weaken cut a (m - 1) vs ws took)))
 
--- a reading of what stands behind a term, past the cut
+-- a reading of what stands after a term, past the cut
 term_past : (cut : Cut) (n : ℕ) (go other : Readers) → Deep cut n go other → (k : ℕ) (b : Bool) (x : Expr) (l : Nesting) (ts : Tokens) → length ts ≤ length cut.here → Shrinks cut three (term_from go k b x l ts)
 unfolding term_from
 term_past cut n go other d zero b x l ts h = h
@@ -489,7 +489,7 @@ last_goes : (cut : Cut) (n : ℕ) (go other : Readers) → Deep cut n go other �
 last_goes cut n go other d o x l p w mode m low ts us h =
     bind cut three three mode m n low _ _ _ _ (prefixed_goes cut n go other d l p w mode m low ts us h) (λ y a la vs k. done_three cut a m (expr.Infix o x y.0) y.1 y.2 vs k)
 
--- behind an = or /=
+-- after an = or /=
 compared_turn : (cut : Cut) (n : ℕ) (go other : Readers) → Deep cut n go other → (k j : ℕ) (o : InfixWord) (x : Expr) (l : Nesting)
     → ((mode : Mode) (m : ℕ) → Low mode m (n + 1) → Turns cut mode k j m → (y : Expr) (i : Nesting) (ts us : Tokens) → Meets cut mode m ts us → Goes cut three mode m (compared_from go k y i ts) (compared_from other j y i us))
     → (mode : Mode) (m : ℕ) → Low mode m n → Turns cut mode k j m → (ts us : Tokens) → Took cut mode m ts us
@@ -555,7 +555,7 @@ between_goes cut n go other d connective.Iff l = chain_on_goes cut n go other d 
 chain_goes : (cut : Cut) (n : ℕ) (go other : Readers) → Deep cut n go other → (c : Connective) (l : Nesting) → Opens cut three n (chain_with go c l) (chain_with other c l)
 chain_goes cut n go other d c l = chain_on_goes cut n go other d c _ _ (between_goes cut n go other d c l)
 
--- ---- behind THEN and an expression
+-- ---- after THEN and an expression
 
 else_goes : (cut : Cut) (n : ℕ) (go other : Readers) → Deep cut n go other → (l : Nesting) → Enters cut three n (else_with go l) (else_with other l)
 else_goes cut n go other d l mode m low ts us h =

@@ -1,4 +1,4 @@
--- Declarations one behind another, with semicolons or without: what is read is in the grammar, and what is in the grammar is read.
+-- Declarations one after another, with semicolons or without: what is read is in the grammar, and what is in the grammar is read.
 use Rattle.std.proofs.Common.{◌≡◌, ◌∙◌, ℕ, zero, suc, ◌≤◌, Bool, true, false, if◌then◌else◌, List, [], ◌∷◌, ◌++◌, length, Option, Some, None, Ok, refl, sym, ap, subst, append_assoc, append-nil, length-append, arith}
 use Rattle.pvs_parser.specs.declared.terminal.Terminal.{Terminal}
 use Rattle.pvs_parser.specs.declared.terminal.TerminalKind.{TerminalKind}
@@ -28,7 +28,7 @@ semicolon_of ts None a = ([], nothing, DerivesSemicolon.none)
 pub semicolon_sound : (ts : Tokens) → (ss : Tokens) × Splits ts ss (past_semicolon ts) × DerivesSemicolon ss
 semicolon_sound ts = semicolon_of ts (after kind.Semicolon ts) refl
 
--- a front of the tokens is declarations, which come behind those found
+-- a prefix of the tokens is declarations, which come after those found
 abbrev ManyFront : (Tokens → List Decl → Type 0) → List Decl → Tokens → List Decl × Tokens → Type 0
 ManyFront D before ts p = (ds : List Decl) × (vs : Tokens) × Splits ts vs p.1 × (p.0 ≡ before ++ ds) × DerivesMany D vs ds
 

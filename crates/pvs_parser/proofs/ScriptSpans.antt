@@ -15,7 +15,7 @@ use Rattle.pvs_parser.specs.Language.{Limit, Tokens, language_limit}
 use Rattle.pvs_parser.specs.Units.{DerivesProof, DerivesItems}
 use Rattle.pvs_parser.specs.Text.{terminal, terminals_of_text, first_place, Reads, SpanIn, SpansIn}
 
--- the spans of terminals lie between two offsets, one behind another, and each has the place of its first byte
+-- the spans of terminals lie between two offsets, one after another, and each has the place of its first byte
 abbrev pub Spans : List ℕ → ℕ → ℕ → Tokens → Type 0
 Spans text from to [] = from ≤ to
 Spans text from to (t ∷ ts) = (from ≤ t.word.start) × (t.word.start ≤ t.word.end) × (t.word.pos ≡ place_at text t.word.start) × Spans text t.word.end to ts
@@ -37,7 +37,7 @@ spans_most : (text : List ℕ) (from to : ℕ) (ts : Tokens) → Spans text from
 spans_most text from to [] s = s
 spans_most text from to (t ∷ ts) s = omega (arith, s.0, s.1, spans_most text t.word.end to ts s.3)
 
--- the spans behind the first tokens
+-- the spans after the first tokens
 pub spans_behind : (text : List ℕ) (from to : ℕ) (ts us : Tokens) → Spans text from to (ts ++ us) → (at : ℕ) × (from ≤ at) × Spans text at to us
 spans_behind text from to [] us s = (from, omega arith, s)
 spans_behind text from to (t ∷ ts) us s = let b = spans_behind text t.word.end to ts us s.3 in (b.0, omega (arith, s.0, s.1, b.1), b.2)

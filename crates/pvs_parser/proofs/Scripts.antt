@@ -166,7 +166,7 @@ token_goes : (limit : Limit) (n : ℕ) (t : Terminal) (ts : Tokens) (y : Word ×
 unfolding closing_parenthesis
 token_goes limit n t ts y plain g = record { is = plain_goes limit n t ts (λ m. closing_parenthesis limit m ts) t.kind plain ∙ g.is }
 
--- what is read behind balanced tokens is read through them
+-- what is read after balanced tokens is read through them
 through : (limit : Limit) (k : ℕ) (vs : Tokens) → Balanced limit k vs → (n : ℕ) → k ≡ suc n → (rest : Tokens) (y : Word × Tokens) → Gets (closing_parenthesis limit n rest) y → Gets (closing_parenthesis limit n (vs ++ rest)) y
 through limit _ _ (Balanced.nothing k) n e rest y g = g
 through limit _ _ (Balanced.token k ts t plain d) n e rest y g = token_goes limit n t (ts ++ rest) y plain (through limit k ts d n e rest y g)
@@ -187,7 +187,7 @@ proof_goes limit ts u v w x y z c word is dot is2 opened lt d close last us =
     then_ _ (takes kind.Proof u (v ∷ w ∷ x ∷ y ∷ (ts ++ z ∷ c ∷ us)) _ word (names v (w ∷ x ∷ y ∷ (ts ++ z ∷ c ∷ us)) _ is (takes kind.Dot w (x ∷ y ∷ (ts ++ z ∷ c ∷ us)) _ dot (names x (y ∷ (ts ++ z ∷ c ∷ us)) _ is2 found))))
     (then_ _ (script_goes limit y z ts (c ∷ us) opened lt d close) (takes kind.Close c us _ last found))
 
--- a proof is read behind its parenthesis
+-- a proof is read after its parenthesis
 pub proof_complete : (limit : Limit) (ts : Tokens) (p : Proof) → DerivesProof limit ts p → (us : Tokens) → (t : Terminal) × (vs : Tokens) × (ts ≡ t ∷ vs) × Is kind.Open t × Gets (proof limit (vs ++ us)) (p, us)
 proof_complete limit _ _ (DerivesProof.proof ts t u v w x y z c first word is dot is2 opened lt d close last) us = (
   t,

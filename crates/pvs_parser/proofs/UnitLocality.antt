@@ -1,4 +1,4 @@
--- Reading units looks at no token behind the one where it stops.
+-- Reading units looks at no token after the one where it stops.
 use Rattle.std.proofs.Common.{◌≡◌, ◌∙◌, ℕ, zero, suc, ◌+◌, ◌-◌, ◌<◌, ◌≤◌, ◌⊎◌, inl, inr, Bool, true, false, if◌then◌else◌, List, [], ◌∷◌, ◌++◌, length, map, Option, Some, None, Ok, Err, refl, sym, ap, subst, length-append, arith}
 use Rattle.std.specs.Prelude.{bytes_eq}
 use Rattle.pvs_parser.specs.declared.failure.Reason.TheVariants as reason
@@ -145,7 +145,7 @@ plus_goes cut h mode m ts us meets =
       one a t vs ws i took true = raise cut two a m _ _ (done_two cut a (m - 1) (h true) vs ws (weaken cut a (m - 1) vs ws took))
       one a t vs ws i took false = done_two cut a m (h false) (t ∷ vs) (t ∷ ws) i
 
--- a function of the first token, and of those behind it
+-- a function of the first token, and of those after it
 abbrev Firsts : {X : Type 0} → Cut → Shape X → (Terminal → Tokens → Answer X) → (Terminal → Tokens → Answer X) → Type 0
 Firsts cut s f g = (t : Terminal) (mode : Mode) (m : ℕ) (vs ws : Tokens) → Meets cut mode m (t ∷ vs) (t ∷ ws) → Took cut mode (m - 1) vs ws → Goes cut s mode m (f t vs) (g t ws)
 
@@ -170,14 +170,14 @@ formal_after_goes cut a b p xs mode m ts us h =
 formal_goes : (cut : Cut) (a b : Limit) → Paired cut a b → Follows cut two (formal a) (formal b)
 formal_goes cut a b p = bind_of cut two two _ _ _ _ (ids_goes cut a b p) (λ x mode m us i. expect_of cut two kind.Colon _ _ (took cut two _ _ (formal_after_goes cut a b p x.0)) mode m x.1 us i)
 
--- an identifier or not, as a test tells
+-- an identifier or not, as a test says
 abbrev id_test : Terminal → Tokens → Bool → Answer (Word × Tokens)
 id_test t ts c = if c then Ok (t.word, ts) else stop (t ∷ ts)
 
 abbrev name_test : Terminal → Tokens → Bool → Read Word
 name_test t ts c = id_test t ts c >>= λ p. Ok (p.0, outermost, p.1)
 
--- names behind such a test
+-- names after such a test
 abbrev names_test : ℕ → Terminal → Tokens → Bool → Read (List Word)
 names_test k t ts c = name_test t ts c >>= λ p. either (after kind.Comma p.2) (λ us. list_from is_id name k (p.0 ∷ []) (without_marks p.1) us) (Ok (p.0 ∷ [], p.1, p.2))
 
@@ -395,7 +395,7 @@ assumed_goes : (cut : Cut) (a b : Limit) → Paired cut a b → Follows cut two 
 assumed_goes cut a b p = after_of cut two kind.Importing _ _ (λ z. ids a z >>= λ p. expect kind.Colon p.1 >>= λ us. assuming_decls_after_colon a p.0 us) (λ z. ids b z >>= λ p. expect kind.Colon p.1 >>= λ us. assuming_decls_after_colon b p.0 us)
     (took cut two _ _ (importing_goes cut a b p)) (bind_of cut two two _ _ _ _ (ids_goes cut a b p) (λ x mode m us i. expect_of cut two kind.Colon _ _ (took cut two _ _ (assumed_after_goes cut a b p x.0)) mode m x.1 us i))
 
--- ---- declarations one behind another
+-- ---- declarations one after another
 
 semicolon_past : (cut : Cut) (ts : Tokens) → length ts ≤ length cut.here → length (past_semicolon ts) ≤ length cut.here
 semicolon_past cut [] h = h
@@ -419,7 +419,7 @@ Shorter {X} f = (ts : Tokens) (x : X × Tokens) → f ts ≡ Ok x → length x.1
 fore_shorter : {X : Type 0} (f : Tokens → Answer (X × Tokens)) (D : Tokens → X → Type 0) → ((ts : Tokens) → Yields (f ts) (Fore D ts)) → ((ts : Tokens) (x : X) → D ts x → (t : Terminal) × (vs : Tokens) × (ts ≡ t ∷ vs)) → Shorter f
 fore_shorter f D sound some ts x e = let h = (sound ts).holds x e in let g = some h.0 x.0 h.2 in omega (arith, ap length h.1.same, length-append h.0 x.1, ap length g.2)
 
--- what stands before the cut behind a declaration, without a semicolon
+-- what stands before the cut after a declaration, without a semicolon
 semicolon_same : (cut : Cut) (m : ℕ) (t : Terminal) (q : Tokens) → suc (length q) ≤ m → Meets cut Mode.Before m (past_semicolon (t ∷ (q ++ cut.here))) (past_semicolon (t ∷ (q ++ cut.there)))
 semicolon_same cut m t q le = one (same_kind t.kind kind.Semicolon) where
   one : (c : Bool) → Meets cut Mode.Before m (either (if c then Some (q ++ cut.here) else None) (λ us. us) (t ∷ (q ++ cut.here))) (either (if c then Some (q ++ cut.there) else None) (λ us. us) (t ∷ (q ++ cut.there)))
@@ -514,7 +514,7 @@ theory_goes cut a b p text = bind_of cut three two _ _ _ _ (heading_goes cut a b
 
 -- ---- proofs
 
--- behind an open parenthesis
+-- after an open parenthesis
 open_goes : {Y : Type 0} (cut : Cut) (u : Shape Y) (a b : Limit) → Rooms cut a b → (n : ℕ) (mode : Mode) (m : ℕ) (o p : Answer Y) (ts us : Tokens) → Took cut mode m ts us → Goes cut u mode m o p
     → Goes cut u mode m (if is_below a n then o else too_deep ts) (if is_below b n then p else too_deep us)
 open_goes cut u a b rooms n mode m o p ts us t h = one (is_below a n) (is_below b n) (rooms.wider n) (rooms.tight n) where
@@ -556,7 +556,7 @@ balanced_goes : (cut : Cut) (a b : Limit) → Rooms cut a b → (n : ℕ) → Fo
 balanced_goes cut a b rooms n Mode.Past m ts us i = balanced_past cut a ts n i
 balanced_goes cut a b rooms n Mode.Before m ts us i = at_front cut two m m (closing_parenthesis a n) (closing_parenthesis b n) ts us i (λ q le. balanced_before cut a b rooms q n m le)
 
--- what is open behind a parenthesis
+-- what is open after a parenthesis
 abbrev script_of : Limit → Terminal → Tokens → Answer (Word × Word × Tokens)
 script_of limit t us = closing_parenthesis limit 0 us >>= λ p. Ok (t.word, p.0, p.1)
 
@@ -589,7 +589,7 @@ item_goes cut a b p text = after_of cut two kind.Open _ _ (λ z. theory a text z
     (took cut two _ _ (bind_of cut two two _ _ _ _ (proof_goes cut a b p) (λ x mode m us i. done_two cut mode m (item.Proof x.0) x.1 us i)))
     (bind_of cut two two _ _ _ _ (theory_goes cut a b p text) (λ x mode m us i. done_two cut mode m (item.Theory x.0) x.1 us i))
 
--- an answer with no tokens behind it
+-- an answer with no tokens after it
 abbrev pub alone : {X : Type 0} → Shape X
 alone = record { rest = λ x. []; put = λ x us. x }
 

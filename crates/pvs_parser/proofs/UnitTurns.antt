@@ -26,7 +26,7 @@ turn f n at below = let e : n - at ≡ suc (n - (at + 1)) = omega arith in ap f 
 full : {X : Type 0} (f : ℕ → X) (n at : ℕ) → n ≤ at → f (n - at) ≡ f 0
 full f n at above = let e : n - at ≡ 0 = omega arith in ap f e
 
--- ---- Identifiers with commas between them, behind those found.
+-- ---- Identifiers with commas between them, after those found.
 
 unfoldable pub ids_from : ℕ → List Word → Tokens → Answer (List Word × Tokens)
 ids_from room found ts = list_from is_id spec.name room found outermost ts >>= λ p. Ok (p.0, p.2)

@@ -96,7 +96,7 @@ unfolding items_from
 items_end limit text zero before = subst (λ z. Gets (Ok before) z) (sym (append-nil before)) found
 items_end limit text (suc n) before = subst (λ z. Gets (Ok before) z) (sym (append-nil before)) found
 
--- one item, and those behind it, which are read with the turns that are left
+-- one item, and those after it, which are read with the turns that are left
 one_more : (limit : Limit) → IsBelow limit 0 → (text : List ℕ) (ts us : Tokens) (i : Item) (is : List Item) → IsItem limit text ts i → (n : ℕ) → length (ts ++ us) ≤ n → (before : List Item)
     → ((m : ℕ) → length us ≤ m → Gets (items_from limit text m (before ++ i ∷ []) us) ((before ++ i ∷ []) ++ is)) → Gets (items_from limit text n before (ts ++ us)) (before ++ i ∷ is)
 one_more limit some text ts us i is d zero le before f =

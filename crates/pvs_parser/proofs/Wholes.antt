@@ -25,18 +25,18 @@ use Rattle.pvs_parser.proofs.DescentComplete.{IsEnd, ends_at, pull_at, whole_sto
 
 -- ---- what is read is in the grammar
 
--- a front of the tokens is a whole expression, and what follows does not go on with it
+-- a prefix of the tokens is a whole expression, and what follows does not go on with it
 abbrev pub WholeFront : Limit → Nesting → Tokens → Expr × Nesting × Tokens → Type 0
 WholeFront limit l ts p = (e : Ending) × (vs : Tokens) × Splits ts vs p.2 × Derives limit (whole e) l vs p.0 p.1 × (pull_of p.2 < 1)
 
 pub read_expr_sound : (limit : Limit) (a : ℕ) (l : Nesting) (ts : Tokens) → Yields (nested_expr (reader limit a) l ts) (WholeFront limit l ts)
 read_expr_sound limit a l ts = weaken (λ p f. (f.0, f.1, f.2, f.3, whole_ends f.0 p.2 f.4)) (reader_sound limit a (start.Chain connective.Iff) l ts)
 
--- Front limit type_ l ts p: a front vs of ts, with Splits ts vs p.2, derives the type p.0; p.1 is the nesting behind it
+-- Front limit type_ l ts p: a prefix vs of ts, with Splits ts vs p.2, derives the type p.0; p.1 is the nesting after it
 pub read_type_sound : (limit : Limit) (a : ℕ) (l : Nesting) (ts : Tokens) → Yields ((reader limit a).type l ts) (Front limit type_ l ts)
 read_type_sound limit a l ts = reader_type_sound limit a l ts
 
--- Framed limit i end l ts p: a front vs of ts derives the list p.0 inside a frame at l, and a terminal of the kind end stands between vs and p.1
+-- Framed limit i end l ts p: a prefix vs of ts derives the list p.0 inside a frame at l, and a terminal of the kind end stands between vs and p.1
 pub read_list_sound : (limit : Limit) (a : ℕ) (i : Item) (end : TerminalKind) (l : Nesting) (ts : Tokens) → Yields (framed_with (reader limit a) i end l ts) (Framed limit i end l ts)
 read_list_sound limit a i end l ts = subst (λ z. Yields (framed_with (reader limit a) i end l ts) (Framed z i end l ts)) (reader_limit limit a) (framed_sound (reader limit a) (sound_reader limit a) i end l ts)
 
@@ -61,12 +61,12 @@ read_list_complete limit a i end stop other l k ts xs u lt d is small all us s =
     framed_goes (reader limit a) i end l k ts us all xs u (complete (reader limit a) a (reader_complete limit a) (list i) (in_frame l) ts xs k (at_limit limit a (list i) (in_frame l) ts xs k d) small)
     (subst (λ z. HasRoom z l) (sym (reader_limit limit a)) lt) stop other is s
 
--- the bindings of a constant's parameters, behind a parenthesis
+-- the bindings of a constant's parameters, after a parenthesis
 pub read_bindings_complete : (limit : Limit) (a : ℕ) (l k : Nesting) (ts : Tokens) (bs : List Binding) (u : Terminal) → HasRoom limit l → Derives limit (list Item.Variable) (in_frame l) ts bs k → Is kind.Close u → length ts < a
     → (all us : Tokens) → Splits all ts (u ∷ us) → Gets (framed_with (reader limit a) Item.Variable kind.Close l all) (bs, us)
 read_bindings_complete limit a l k ts bs u lt d is small all us s = read_list_complete limit a Item.Variable kind.Close (refl, omega arith) no_comma_close l k ts bs u lt d is small all us s
 
--- the actuals of an instance, behind a bracket
+-- the actuals of an instance, after a bracket
 pub read_actuals_complete : (limit : Limit) (a : ℕ) (l k : Nesting) (ts : Tokens) (xs : List Actual) (u : Terminal) → HasRoom limit l → Derives limit (list Item.Parameter) (in_frame l) ts xs k → Is kind.CloseBracket u → length ts < a
     → (all us : Tokens) → Splits all ts (u ∷ us) → Gets (framed_with (reader limit a) Item.Parameter kind.CloseBracket l all) (xs, us)
 read_actuals_complete limit a l k ts xs u lt d is small all us s = read_list_complete limit a Item.Parameter kind.CloseBracket (refl, omega arith) no_comma_bracket l k ts xs u lt d is small all us s

@@ -69,8 +69,8 @@ fn read_span(alloc: Global, text: &[u8], start: u32, end: u32, pos: Pos) -> Resu
 ///   list;
 /// - WrongEnd, at an identifier after END that is not the name of the theory.
 ///
-/// Memory is for want of memory alone, that of the stack among it: a text whose reading would nest
-/// more than 700 calls wants more. Only texts do in which commas clear the marks of open forms.
+/// Memory comes only where memory ran out, that of the stack included: a text whose reading would nest
+/// more than 700 calls needs more. Only texts in which commas clear the marks of open forms do.
 pub fn parse_unit(alloc: Global, text: &[u8]) -> Result<Unit, ParseFault>
     ensures answer { Answers text.now result }
     // Where the text is a unit, that one is answered; where it has a first fault, that one is.
@@ -92,7 +92,7 @@ pub fn parse_unit(alloc: Global, text: &[u8]) -> Result<Unit, ParseFault>
 ///
 /// Otherwise the first fault: BadByte, UnclosedQuote, Unexpected, OutOfProfile or TooNested, each
 /// where `parse_unit` has it, with an expression in place of a unit. The place after the last byte
-/// is that after the span. Memory is for want of memory alone, as in `parse_unit`.
+/// is that after the span. Memory comes only where memory ran out, as in `parse_unit`.
 pub fn parse_expr(
     alloc: Global,
     text: &[u8],

@@ -1,4 +1,4 @@
-//! The tokens of a text as the grammar tells them apart.
+//! The tokens of a text as the grammar distinguishes them.
 
 ghost use Rattle.std.specs.Prelude.{◌≡◌, ◌≤◌, ◌<◌, ◌+◌, ◌^◌, length, IfOk};
 ghost use Rattle.std.specs.Str.{bytes_eq};

@@ -1,4 +1,4 @@
--- The tokens of a script: those of its span, as the grammar tells them apart.
+-- The tokens of a script: those of its span, as the grammar distinguishes them.
 use Rattle.std.specs.Prelude.{ℕ, ◌+◌, ◌-◌, ◌*◌, nat_le, ◌==◌, if◌then◌else◌, List, [], ◌∷◌, length, map, codes}
 use Rattle.std.specs.Char.{is_ascii_digit}
 use Rattle.std.specs.Str.{bytes_eq}

@@ -1,4 +1,4 @@
-//! Tokens as the grammar tells them apart.
+//! Tokens as the grammar distinguishes them.
 
 use pvs_base::Pos;
 

@@ -37,7 +37,7 @@ abbrev pub found : {A : Type 0} → Code → Option A → Outcome A
 found c None = Refused c
 found c (Some a) = pure a
 
--- goes on where a test holds, and where a term has the form that the rule wants
+-- goes on where a test holds, and where a term has the form that the rule needs
 abbrev pub only : Bool → Outcome (Unit {0})
 only true = pure tt
 only false = Refused code.NotApplicable

@@ -166,7 +166,7 @@ ref_eq-decided b r q f g = go b (ref_eq r q) f g (ref_eq-true r q) (λ e. subst 
     go false true f g h k = g (h refl)
     go false false f g h k = refl
 
--- what the test for equal references tells
+-- what the test for equal references says
 pub ref_eq_tells : (b : Bool) (r q : Ref) → b ≡ ref_eq r q → ((b ≡ true) × (r ≡ q)) ⊎ ((b ≡ false) × (r ≡ q → ⊥))
 ref_eq_tells true r q h = inl (refl, ref_eq-true r q (sym h))
 ref_eq_tells false r q h = inr (refl, λ e. cc (h, subst (λ x. ref_eq r x ≡ true) e (ref_eq-same r)))

@@ -95,7 +95,7 @@ const BOTH_OPEN: &str = "theory b\nb.a axiom\nb.l open\nb.m open\n";
 
 const ONE_OPEN: &str = "theory b\nb.a axiom\nb.l open\nb.m complete\n";
 
-/// Proofs behind the theory, the first on line 8, with what the report has behind the beginning.
+/// Proofs after the theory, the first on line 8, with what the report has after the beginning.
 #[test]
 fn proofs(rt: HostRuntime) -> Result<(), Fail> {
     for (scripts, begin, end, status) in [
@@ -124,7 +124,7 @@ fn proofs(rt: HostRuntime) -> Result<(), Fail> {
             "proof b.l refused 8:20 NotApplicable\ntotal complete 0 incomplete 0 open 2 refused 1\n",
             Status::Unfinished,
         ),
-        // A step behind two premises, a step behind none, and a script behind none.
+        // A step after two premises, a step after none, and a script after none.
         (
             "(proof b.l ((if 1) (if -1) (if 1)))",
             BOTH_OPEN,

@@ -130,7 +130,7 @@ fn several_theories(rt: HostRuntime) -> Result<(), Fail> {
              total complete 0 incomplete 0 open 0 refused 3\n",
             Status::Unfinished,
         ),
-        // The name of the theory comes before the names in it, and behind its forms.
+        // The name of the theory comes before the names in it, and after its forms.
         (
             "t: THEORY BEGIN END t\nt: THEORY BEGIN p, p: bool END t\n\
              t: THEORY BEGIN T: TYPE END t",
