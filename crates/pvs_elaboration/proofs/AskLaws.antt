@@ -1,10 +1,9 @@
 -- What is asked of a phrase, by its form.
-use Rattle.std.proofs.Common.{◌≡◌, ℕ, Bool, true, false, [], ◌∷◌, refl, sym, ◌∙◌, ap, ap₂}
-use Rattle.std.specs.Prelude.{if◌then◌else◌, Ok}
+use Rattle.std.proofs.Common.{◌≡◌, ℕ, refl, sym, ◌∙◌, ap, ap₂}
+use Rattle.std.specs.Prelude.{Ok}
 use Rattle.pvs_base.specs.Answers.{◌>>=◌}
 use Rattle.pvs_base.specs.declared.place.Pos.{Pos}
-use Rattle.pvs_terms.specs.Tree.{Tree, TBool, True, False}
-use Rattle.pvs_terms.specs.declared.shape.Sort.TheVariants.{OfType, OfTerm}
+use Rattle.pvs_terms.specs.Tree.{Tree, TBool}
 use Rattle.pvs_terms.specs.Stored.{Stored, tree_at}
 use Rattle.pvs_sig.specs.Lookups.{Lookups}
 use Rattle.pvs_base.specs.declared.code.Code.{Code}
@@ -16,23 +15,21 @@ use Rattle.pvs_elab.specs.Elab.{TypedTree, elab, choice_first}
 use Rattle.pvs_elaboration.specs.declared.here.Here.{Here}
 use Rattle.pvs_elaboration.specs.declared.value.Mode.{Mode}
 use Rattle.pvs_elaboration.specs.declared.value.Mode.TheVariants as mode
-use Rattle.pvs_elaboration.specs.declared.value.Value.TheVariants as value
 use Rattle.pvs_elaboration.specs.declared.choice.Branches.{Branches}
-use Rattle.pvs_elaboration.specs.declared.choice.ChoiceRow.TheVariants.{First, CheckFirst}
-use Rattle.pvs_elaboration.specs.declared.choice.NotRow.TheVariants as not_form
+use Rattle.pvs_elaboration.specs.declared.choice.ChoiceRow.TheVariants.{First}
 use Rattle.pvs_elaboration.specs.declared.frame.Frame.{Frame}
 use Rattle.pvs_elaboration.specs.declared.frame.Frame.TheVariants as frame
 use Rattle.pvs_elaboration.specs.declared.frame.Control.TheVariants as control
 use Rattle.pvs_elaboration.specs.declared.frame.Entrance.TheVariants as entrance
 use Rattle.pvs_elaboration.specs.declared.frame.Next.{Next}
-use Rattle.pvs_elaboration.specs.Known.{Sources, phrase_at, place_in, word_at, Known, Site, site_in, IsHere, IsTypeOf, AreKnownNumbers, Failed}
-use Rattle.pvs_elaboration.specs.Meanings.{Meaning, Typed, Term, typed_answer, term_answer, formed_answer, done_answer, on_typed, on_term, fault_at, elab_at}
+use Rattle.pvs_elaboration.specs.Known.{Sources, phrase_at, place_in, Known, Site, site_in, IsHere, IsTypeOf, Failed}
+use Rattle.pvs_elaboration.specs.Meanings.{Meaning, Typed, Term, typed_answer, term_answer, formed_answer, on_typed, on_term, fault_at, elab_at}
 use Rattle.pvs_elaboration.specs.Choice.{places_of, branch_first}
 use Rattle.pvs_elaboration.specs.Machine.{Follows, asked_at, coerced_at}
 use Rattle.pvs_elaboration.proofs.KnownLaws.{grows_none}
-use Rattle.pvs_elaboration.proofs.MachineLaws.{then_typed, then_term, then_alike, nothing_after}
+use Rattle.pvs_elaboration.proofs.MachineLaws.{then_typed, then_term, then_alike}
 use Rattle.pvs_elaboration.proofs.JoinLaws.{branches_are}
-use Rattle.pvs_elaboration.proofs.StepLaws.{given, follows_at_once}
+use Rattle.pvs_elaboration.proofs.StepLaws.{follows_at_once}
 
 pub elab_place : (s : Lookups) (names : Names) (e : Phrase) → (elab s names e).place ≡ place e
 elab_place s names (phrase.Name x pos) = refl
@@ -60,36 +57,12 @@ elab_place s names (phrase.Other pos) = refl
 abbrev pub asked_then : ℕ → Mode → Frame → Next
 asked_then x m f = record { entrance = entrance.Here; control = control.Ask x m; frame = f }
 
-truth_is : (b : Bool) (s : Stored) (h : Here) → tree_at s h.yes ≡ True → tree_at s h.no ≡ False → tree_at s (if b then h.yes else h.no) ≡ (if b then True else False)
-truth_is true s h e d = e
-truth_is false s h e d = d
-
-truth_known : (b : Bool) {k : Known} {h : Here} → IsHere k h → AreKnownNumbers k ((OfTerm, if b then h.yes else h.no) ∷ (OfType, h.truth) ∷ [])
-truth_known true i = (i.yes, (i.truth, tt))
-truth_known false i = (i.no, (i.truth, tt))
-
-pub truth_follows : {k : Known} (text : Sources) (h : Here) (b : Bool) (p : ℕ) → IsHere k h
-    → Follows k k text h (asked_at (site_in k text h) k.stored text mode.Infer (phrase.Truth b (place_in text p))) (given (value.Typed (record { tree = if b then h.yes else h.no; ty = h.truth })) frame.Same)
-truth_follows {k} text h b p i =
-    follows_at_once text h _ _ (record { entrance = tt; control = truth_known b i; frame = tt })
-    (ap₂ (λ (t : Tree) (u : Tree). Ok (Typed (record { tree = t; ty = u }))) (sym (truth_is b k.stored h i.is_yes i.is_no)) (sym i.is_truth))
-
--- a part that answers for the whole
-pub group_follows : {k : Known} (text : Sources) (h : Here) (x : ℕ) (pos : Pos)
-    → Follows k k text h (asked_at (site_in k text h) k.stored text mode.Infer (phrase.Group (phrase_at text x) pos)) (asked_then x mode.Infer frame.Same)
-group_follows text h x pos = follows_at_once text h _ _ (record { entrance = tt; control = tt; frame = tt }) (sym (nothing_after _))
-
 -- a part that is a truth value
 truth_checked : {k : Known} {A : Type 0} (text : Sources) (h : Here) (x : ℕ) (f : Tree → Answer A) (g : A → Answer Meaning) → IsHere k h
     → (((elab k.lookups k.names (phrase_at text x)).check (site_in k text h).here (elab k.lookups k.names (phrase_at text x)).place TBool >>= f) >>= g)
     ≡ (term_answer ((elab k.lookups k.names (phrase_at text x)).check (site_in k text h).here (elab k.lookups k.names (phrase_at text x)).place (tree_at k.stored h.truth)) >>= on_term (λ t. f t >>= g))
 truth_checked {k} text h x f g i =
     ap (λ (u : Tree). ((elab k.lookups k.names (phrase_at text x)).check (site_in k text h).here (elab k.lookups k.names (phrase_at text x)).place u >>= f) >>= g) (sym i.is_truth) ∙ then_term _ f g
-
-pub not_follows : {k : Known} (text : Sources) (h : Here) (x : ℕ) (p : ℕ) → IsHere k h
-    → Follows k k text h (asked_at (site_in k text h) k.stored text mode.Infer (phrase.Not (phrase_at text x) (place_in text p))) (asked_then x (mode.Check h.truth) (frame.Not not_form.Tree p p))
-unfolding site_in
-not_follows text h x p i = follows_at_once text h _ _ (record { entrance = tt; control = (i.truth, tt); frame = tt }) (truth_checked text h x _ _ i)
 
 pub choice_follows : {k : Known} (text : Sources) (h : Here) (c : ℕ) (b : Branches) → IsHere k h → place_in text b.first_at ≡ place (phrase_at text b.first) → place_in text b.second_at ≡ place (phrase_at text b.second)
     → Follows k k text h (asked_at (site_in k text h) k.stored text mode.Infer (phrase.Choice b.early (phrase_at text c) (phrase_at text b.first) (phrase_at text b.second) (place_in text b.join) (place_in text b.at)))
@@ -107,24 +80,7 @@ choice_follows {k} text h c b i p q =
     (elab_place k.lookups k.names (phrase_at text b.first) ∙ sym p) (elab_place k.lookups k.names (phrase_at text b.second) ∙ sym q)
     ∙ truth_checked text h c (branch_first z b.early (places_of text b) x y) (λ (t : TypedTree). Ok (Typed t)) i)
 
--- as one of a type
-
-pub group_checked : {k : Known} (text : Sources) (h : Here) (x : ℕ) (pos : Pos) (at : ℕ) (u : ℕ) → IsTypeOf k u
-    → Follows k k text h (asked_at (site_in k text h) k.stored text (mode.CheckAt at u) (phrase.Group (phrase_at text x) pos)) (asked_then x (mode.CheckAt at u) frame.Same)
-group_checked text h x pos at u n = follows_at_once text h _ _ (record { entrance = tt; control = (n, tt); frame = tt }) (sym (nothing_after _))
-
-pub not_checked : {k : Known} (text : Sources) (h : Here) (x : ℕ) (p at : ℕ) (u : ℕ) → IsHere k h → IsTypeOf k u
-    → Follows k k text h (asked_at (site_in k text h) k.stored text (mode.CheckAt at u) (phrase.Not (phrase_at text x) (place_in text p))) (asked_then x (mode.Check h.truth) (frame.Not (not_form.False u) p at))
-unfolding site_in
-not_checked text h x p at u i n = follows_at_once text h _ _ (record { entrance = tt; control = (i.truth, tt); frame = (n, tt) }) (truth_checked text h x _ _ i)
-
-pub choice_checked : {k : Known} (text : Sources) (h : Here) (c : ℕ) (b : Branches) (at : ℕ) (u : ℕ) → IsHere k h → IsTypeOf k u
-    → Follows k k text h (asked_at (site_in k text h) k.stored text (mode.CheckAt at u) (phrase.Choice b.early (phrase_at text c) (phrase_at text b.first) (phrase_at text b.second) (place_in text b.join) (place_in text b.at)))
-    (asked_then c (mode.Check h.truth) (frame.Choice (CheckFirst u) b))
-unfolding site_in
-choice_checked text h c b at u i n = follows_at_once text h _ _ (record { entrance = tt; control = (i.truth, tt); frame = (n, tt) }) (truth_checked text h c _ _ i)
-
--- by its own type
+-- a term as one of a type, by its own type
 pub inference_checked : {k : Known} (text : Sources) (h : Here) (x : ℕ) (e : Phrase) (at : ℕ) (u : ℕ) → IsTypeOf k u → e ≡ phrase_at text x
     → ((elab k.lookups k.names e).check (site_in k text h).here (place_in text at) (tree_at k.stored u) ≡ ((elab k.lookups k.names e).infer (site_in k text h).here >>= coerced_at (site_in k text h) (place_in text at) (place_in text at) (tree_at k.stored u)))
     → Follows k k text h (asked_at (site_in k text h) k.stored text (mode.CheckAt at u) e) (asked_then x mode.Infer (frame.Coerce at at u))
@@ -133,65 +89,12 @@ inference_checked {k} text h x e at u n d c =
     follows_at_once text h _ _ (record { entrance = tt; control = tt; frame = (n, tt) })
     (ap term_answer c ∙ then_typed ((elab k.lookups k.names e).infer (site_in k text h).here) (coerced_at (site_in k text h) (place_in text at) (place_in text at) (tree_at k.stored u)) (λ (y : Tree). Ok (Term y)) ∙ ap (λ (y : Phrase). typed_answer ((elab k.lookups k.names y).infer (site_in k text h).here) >>= on_typed (λ t. term_answer (coerced_at (site_in k text h) (place_in text at) (place_in text at) (tree_at k.stored u) t))) d)
 
-pub truth_checked_at : {k : Known} (text : Sources) (h : Here) (x : ℕ) (b : Bool) (p at : ℕ) (u : ℕ) → IsTypeOf k u → phrase.Truth b (place_in text p) ≡ phrase_at text x
-    → Follows k k text h (asked_at (site_in k text h) k.stored text (mode.CheckAt at u) (phrase.Truth b (place_in text p))) (asked_then x mode.Infer (frame.Coerce at at u))
-unfolding site_in
-truth_checked_at text h x b p at u n d = inference_checked text h x (phrase.Truth b (place_in text p)) at u n d refl
-
 -- a check at the place of the phrase
 pub own_place : (z : Site) (s : Stored) (text : Sources) (e : Phrase) (at : ℕ) (u : ℕ) → place_in text at ≡ place e → asked_at z s text (mode.Check u) e ≡ asked_at z s text (mode.CheckAt at u) e
 own_place z s text e at u p = ap (λ (q : Pos). term_answer ((elab z.lookups z.names e).check z.here q (tree_at s u))) (elab_place z.lookups z.names e ∙ sym p)
 
--- what is not asked of a form is a fault of it, and what is not the predicate of a universal formula has no fault
-
-pub predicate_follows : {k : Known} (text : Sources) (h : Here) (e : Phrase) → (elab k.lookups k.names e).predicate (site_in k text h).here ≡ Ok tt
-    → Follows k k text h (asked_at (site_in k text h) k.stored text mode.Predicate e) (given value.Done frame.Same)
-unfolding site_in
-predicate_follows text h e d = follows_at_once text h _ _ (record { entrance = tt; control = tt; frame = tt }) (ap done_answer d)
-
+-- a form that is no type
 pub not_a_type : (k : Known) (text : Sources) (h : Here) (e : Phrase) (at : ℕ) (c : Code) → (elab k.lookups k.names e).formed (site_in k text h).here ≡ fault (place_in text at) c
     → Failed k k (asked_at (site_in k text h) k.stored text mode.Formed e) (fault_at (place_in text at) c)
 unfolding site_in
 not_a_type k text h e at c d = record { kept = grows_none k; is = ap formed_answer d }
-
-pub not_a_term : (k : Known) (text : Sources) (h : Here) (e : Phrase) (at : ℕ) (c : Code) → (elab k.lookups k.names e).infer (site_in k text h).here ≡ fault (place_in text at) c
-    → Failed k k (asked_at (site_in k text h) k.stored text mode.Infer e) (fault_at (place_in text at) c)
-unfolding site_in
-not_a_term k text h e at c d = record { kept = grows_none k; is = ap typed_answer d }
-
-pub not_a_term_of : (k : Known) (text : Sources) (h : Here) (e : Phrase) (at : ℕ) (c : Code) (there u : ℕ)
-    → (elab k.lookups k.names e).check (site_in k text h).here (place_in text there) (tree_at k.stored u) ≡ fault (place_in text at) c
-    → Failed k k (asked_at (site_in k text h) k.stored text (mode.CheckAt there u) e) (fault_at (place_in text at) c)
-unfolding site_in
-not_a_term_of k text h e at c there u d = record { kept = grows_none k; is = ap term_answer d }
-
--- A form that is checked by its own type.
-
-pub apply_checked : {k : Known} (text : Sources) (h : Here) (x f y at u : ℕ) → IsTypeOf k u → phrase.Apply (phrase_at text f) (phrase_at text y) ≡ phrase_at text x
-    → Follows k k text h (asked_at (site_in k text h) k.stored text (mode.CheckAt at u) (phrase.Apply (phrase_at text f) (phrase_at text y))) (asked_then x mode.Infer (frame.Coerce at at u))
-unfolding site_in
-apply_checked text h x f y at u n d = inference_checked text h x (phrase.Apply (phrase_at text f) (phrase_at text y)) at u n d refl
-
-pub all_checked : {k : Known} (text : Sources) (h : Here) (x name a p pos at u : ℕ) → IsTypeOf k u → phrase.All (word_at text name) (phrase_at text a) (phrase_at text p) (place_in text pos) ≡ phrase_at text x
-    → Follows k k text h (asked_at (site_in k text h) k.stored text (mode.CheckAt at u) (phrase.All (word_at text name) (phrase_at text a) (phrase_at text p) (place_in text pos))) (asked_then x mode.Infer (frame.Coerce at at u))
-unfolding site_in
-all_checked text h x name a p pos at u n d = inference_checked text h x (phrase.All (word_at text name) (phrase_at text a) (phrase_at text p) (place_in text pos)) at u n d refl
-
-pub lambda_checked : {k : Known} (text : Sources) (h : Here) (x name a b pos at u : ℕ) → IsTypeOf k u → phrase.Lambda (phrase_at text a) (word_at text name ∷ []) (phrase_at text b) (place_in text pos) ≡ phrase_at text x
-    → Follows k k text h (asked_at (site_in k text h) k.stored text (mode.CheckAt at u) (phrase.Lambda (phrase_at text a) (word_at text name ∷ []) (phrase_at text b) (place_in text pos))) (asked_then x mode.Infer (frame.Coerce at at u))
-unfolding site_in
-lambda_checked text h x name a b pos at u n d = inference_checked text h x (phrase.Lambda (phrase_at text a) (word_at text name ∷ []) (phrase_at text b) (place_in text pos)) at u n d refl
-
-pub equal_checked : {k : Known} (text : Sources) (h : Here) (x y z at u : ℕ) → IsTypeOf k u → phrase.Equal (phrase_at text y) (phrase_at text z) ≡ phrase_at text x
-    → Follows k k text h (asked_at (site_in k text h) k.stored text (mode.CheckAt at u) (phrase.Equal (phrase_at text y) (phrase_at text z))) (asked_then x mode.Infer (frame.Coerce at at u))
-unfolding site_in
-equal_checked text h x y z at u n d = inference_checked text h x (phrase.Equal (phrase_at text y) (phrase_at text z)) at u n d refl
-
-pub iff_checked : {k : Known} (text : Sources) (h : Here) (x y z at u : ℕ) → IsTypeOf k u → phrase.Iff (phrase_at text y) (phrase_at text z) ≡ phrase_at text x
-    → Follows k k text h (asked_at (site_in k text h) k.stored text (mode.CheckAt at u) (phrase.Iff (phrase_at text y) (phrase_at text z))) (asked_then x mode.Infer (frame.Coerce at at u))
-unfolding site_in
-iff_checked text h x y z at u n d = inference_checked text h x (phrase.Iff (phrase_at text y) (phrase_at text z)) at u n d refl
-
-pub group_predicate : {k : Known} (text : Sources) (h : Here) (x : ℕ) (pos : Pos)
-    → Follows k k text h (asked_at (site_in k text h) k.stored text mode.Predicate (phrase.Group (phrase_at text x) pos)) (asked_then x mode.Predicate frame.Same)
-group_predicate text h x pos = follows_at_once text h _ _ (record { entrance = tt; control = tt; frame = tt }) (sym (nothing_after _))

@@ -1,5 +1,5 @@
 -- The rows of binders of one variable.
-use Rattle.std.proofs.Common.{◌≡◌, ℕ, Bool, true, false, [], ◌∷◌, refl, sym, ◌∙◌, ap, arith}
+use Rattle.std.proofs.Common.{◌≡◌, ℕ, Bool, true, false, refl, sym, ◌∙◌, ap, arith}
 use Rattle.std.specs.Prelude.{Result, Ok}
 use Rattle.pvs_base.specs.Answers.{◌>>=◌}
 use Rattle.pvs_base.specs.declared.place.Pos.{Pos}
@@ -9,7 +9,6 @@ use Rattle.pvs_terms.specs.Stored.{tree_at, node_tree}
 use Rattle.pvs_types.specs.Limits.{is_within_limits}
 use Rattle.pvs_types.proofs.LimitsLaws.{limits_decided}
 use Rattle.pvs_elab.specs.Answer.{Answer, within_limits_at}
-use Rattle.pvs_elab.specs.Phrase as phrase
 use Rattle.pvs_elab.specs.Elab.{TypedTree, universal, under_name}
 use Rattle.pvs_elaboration.specs.declared.fault.ElabFault.{ElabFault}
 use Rattle.pvs_elaboration.specs.declared.here.Here.{Here}
@@ -24,54 +23,19 @@ use Rattle.pvs_elaboration.specs.declared.frame.Frame.TheVariants as frame
 use Rattle.pvs_elaboration.specs.declared.frame.Control.TheVariants as control
 use Rattle.pvs_elaboration.specs.declared.frame.Entrance.TheVariants as entrance
 use Rattle.pvs_elaboration.specs.declared.frame.Next.{Next}
-use Rattle.pvs_elaboration.specs.Known.{Sources, phrase_at, place_in, word_at, Known, site_in, IsHere, IsTypeOf}
+use Rattle.pvs_elaboration.specs.Known.{Sources, place_in, word_at, Known, site_in, IsHere, IsTypeOf}
 use Rattle.pvs_elaboration.specs.Meanings.{Typed, Term, Formed, Done, typed_at, typed_answer, elab_at}
-use Rattle.pvs_elaboration.specs.Binder.{all_equation, all_predicate, all_body, all_type, lambda_tree, lambda_body, lambda_type, predicate_type, function_range, function_domain, binder_answer}
-use Rattle.pvs_elaboration.specs.Machine.{asked_at, made_answer, made_type_answer, Follows, Steps}
+use Rattle.pvs_elaboration.specs.Binder.{all_equation, all_predicate, all_body, lambda_tree, lambda_body, function_range, binder_answer}
+use Rattle.pvs_elaboration.specs.Machine.{made_answer, made_type_answer, Follows, Steps}
 use Rattle.pvs_elaboration.proofs.KnownLaws.{within_limits_made, beyond_limits}
 use Rattle.pvs_elaboration.proofs.MachineLaws.{then_typed, then_term, then_formed, then_same}
 use Rattle.pvs_elaboration.proofs.StepLaws.{given, follows_at_once, steps_same}
-use Rattle.pvs_elaboration.proofs.AskLaws.{asked_then}
 
 -- what asks the body, under the variable
 abbrev pub asked_below : Binding → ℕ → Mode → Frame → Next
 asked_below o c m f = record { entrance = entrance.Variable o.name c; control = control.Ask o.body m; frame = f }
 
--- the type of the variable is asked first
-
-pub all_asked : {k : Known} (text : Sources) (h : Here) (d : ℕ) (o : Binding)
-    → Follows k k text h (asked_at (site_in k text h) k.stored text mode.Infer (phrase.All (word_at text o.name) (phrase_at text d) (phrase_at text o.body) (place_in text o.at))) (asked_then d mode.Formed (frame.Binder binder.All o))
-unfolding site_in
-all_asked {k} text h d o =
-    let z = site_in k text h in
-    follows_at_once text h _ _ (record { entrance = tt; control = tt; frame = tt })
-    (then_formed ((elab_at z text d).formed z.here) (all_type z (word_at text o.name) (elab_at z text o.body) (place_in text o.at)) (λ (t : TypedTree). Ok (Typed t)))
-
-pub lambda_asked : {k : Known} (text : Sources) (h : Here) (d : ℕ) (o : Binding)
-    → Follows k k text h (asked_at (site_in k text h) k.stored text mode.Infer (phrase.Lambda (phrase_at text d) (word_at text o.name ∷ []) (phrase_at text o.body) (place_in text o.at))) (asked_then d mode.Formed (frame.Binder binder.Lambda o))
-unfolding site_in
-lambda_asked {k} text h d o =
-    let z = site_in k text h in
-    follows_at_once text h _ _ (record { entrance = tt; control = tt; frame = tt })
-    (then_formed ((elab_at z text d).formed z.here) (lambda_type z (word_at text o.name) (elab_at z text o.body) (place_in text o.at)) (λ (t : TypedTree). Ok (Typed t)))
-
-pub predicate_asked : {k : Known} (text : Sources) (h : Here) (d : ℕ) (o : Binding)
-    → Follows k k text h (asked_at (site_in k text h) k.stored text mode.Predicate (phrase.Lambda (phrase_at text d) (word_at text o.name ∷ []) (phrase_at text o.body) (place_in text o.at))) (asked_then d mode.Formed (frame.Binder binder.Predicate o))
-unfolding site_in
-predicate_asked {k} text h d o =
-    let z = site_in k text h in
-    follows_at_once text h _ _ (record { entrance = tt; control = tt; frame = tt })
-    (then_formed ((elab_at z text d).formed z.here) (predicate_type z (word_at text o.name) (elab_at z text o.body)) (λ (u : Unit {0}). Ok Done))
-
-pub function_asked : {k : Known} (text : Sources) (h : Here) (d : ℕ) (o : Binding)
-    → Follows k k text h (asked_at (site_in k text h) k.stored text mode.Formed (phrase.Function (phrase_at text d) (word_at text o.name ∷ []) (phrase_at text o.body) (place_in text o.at))) (asked_then d mode.Formed (frame.Binder binder.Function o))
-unfolding site_in
-function_asked {k} text h d o =
-    let z = site_in k text h in
-    follows_at_once text h _ _ (record { entrance = tt; control = tt; frame = tt })
-    (then_formed ((elab_at z text d).formed z.here) (function_domain z (word_at text o.name) (elab_at z text o.body) (place_in text o.at)) (λ (t : Tree). Ok (Formed t)))
-
--- then the body
+-- after the type of the variable, the body is asked
 
 pub all_follows : {k : Known} (text : Sources) (h : Here) (o : Binding) (c : ℕ) → IsHere k h → IsTypeOf k c
     → Follows k k text h (binder_answer (site_in k text h) k.stored text binder.All o (Formed (tree_at k.stored c))) (asked_below o c (mode.Check h.truth) (frame.Binder (binder.AllBody c) o))

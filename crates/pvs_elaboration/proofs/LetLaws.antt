@@ -30,15 +30,15 @@ use Rattle.pvs_elaboration.specs.declared.frame.Entrance.TheVariants as entrance
 use Rattle.pvs_elaboration.specs.declared.frame.Next.{Next}
 use Rattle.pvs_elaboration.specs.Known.{Sources, phrase_at, place_in, word_at, Known, Grows, Accepts, site_in, IsHere, IsTypeOf, IsTermOf, AreKnownNumbers, Failed}
 use Rattle.pvs_elaboration.specs.Meanings.{Typed, Term, Formed, Done, value_numbers, typed_at, typed_answer, on_typed, fault_of, fault_at, elab_at}
-use Rattle.pvs_elaboration.specs.Lets.{let_type, let_tree, let_lambda, let_body, let_checked, let_formed, let_value, let_annotation, let_answer}
+use Rattle.pvs_elaboration.specs.Lets.{let_type, let_tree, let_lambda, let_body, let_checked, let_formed, let_value, let_answer}
 use Rattle.pvs_elaboration.specs.Machine.{asked_at, made_answer, made_type_answer, Follows, Steps}
 use Rattle.pvs_elaboration.proofs.KnownLaws.{number_stays, tree_stays, within_limits_made, large_failed, failed_then}
-use Rattle.pvs_elaboration.proofs.MachineLaws.{then_typed, then_term, then_formed, then_same}
+use Rattle.pvs_elaboration.proofs.MachineLaws.{then_typed, then_term, then_same}
 use Rattle.pvs_elaboration.proofs.StepLaws.{given, given_follows, follows_at_once, follows_same, steps_same, typing_failed, accepted_value, type_given}
 use Rattle.pvs_elaboration.proofs.AskLaws.{asked_then, elab_place}
 use Rattle.pvs_elaboration.proofs.BinderLaws.{part_first}
 
--- the value is asked first, or the type that is written
+-- the value is asked first, where no type is written
 
 pub let_asked : {k : Known} (text : Sources) (h : Here) (o : Definition) → place_in text o.value_at ≡ place (phrase_at text o.value)
     → Follows k k text h (asked_at (site_in k text h) k.stored text mode.Infer (phrase.Let (word_at text o.name) (phrase_at text o.value) (phrase_at text o.body) (place_in text o.at))) (asked_then o.value mode.Infer (frame.Let lets.Value o))
@@ -49,14 +49,6 @@ let_asked {k} text h o p =
     follows_at_once text h _ _ (record { entrance = tt; control = tt; frame = tt })
     (then_typed (v.infer z.here) (let_value z (word_at text o.name) (elab_at z text o.body) v.place (place_in text o.at)) (λ (t : TypedTree). Ok (Typed t))
     ∙ ap (λ (q : Pos). typed_answer (v.infer z.here) >>= on_typed (λ a. typed_answer (let_value z (word_at text o.name) (elab_at z text o.body) q (place_in text o.at) a))) (elab_place k.lookups k.names (phrase_at text o.value) ∙ sym p))
-
-pub let_as_asked : {k : Known} (text : Sources) (h : Here) (c : ℕ) (o : Definition)
-    → Follows k k text h (asked_at (site_in k text h) k.stored text mode.Infer (phrase.LetAs (word_at text o.name) (phrase_at text c) (phrase_at text o.value) (phrase_at text o.body) (place_in text o.at))) (asked_then c mode.Formed (frame.Let lets.Annotation o))
-unfolding site_in
-let_as_asked {k} text h c o =
-    let z = site_in k text h in
-    follows_at_once text h _ _ (record { entrance = tt; control = tt; frame = tt })
-    (then_formed ((elab_at z text c).formed z.here) (let_annotation z (word_at text o.name) (elab_at z text o.value) (elab_at z text o.body) (place_in text o.at)) (λ (t : TypedTree). Ok (Typed t)))
 
 -- a value with a type of its own
 

@@ -1,6 +1,8 @@
 pub mod KnownLaws
 pub mod FormLaws
 pub mod MachineLaws
+pub mod RunLaws
+pub mod OutermostLaws
 pub mod ListingLaws
 pub mod StepLaws
 pub mod ChoiceLaws
@@ -15,3 +17,4 @@ pub mod SubtypeLaws
 pub mod TupleLaws
 pub mod PartLaws
 pub mod SeveralLaws
+pub mod PhraseLaws

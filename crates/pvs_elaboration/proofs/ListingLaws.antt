@@ -1,6 +1,7 @@
 -- What is listed is looked up by its number.
 use Rattle.std.proofs.Common.{◌≡◌, ◌<◌, ◌≤◌, ◌+◌, ℕ, zero, suc, List, [], ◌∷◌, ◌++◌, length, map, take, get_or, refl, sym, ◌∙◌, ap, ap₂, subst, arith}
 use Rattle.std.proofs.lemmas.List.{append-nil, take_all, take_more}
+use Rattle.std.specs.Prelude.{Result, Ok, Err}
 use Rattle.std.specs.Borrow.{Bor}
 use Rattle.pvs_base.specs.declared.place.Pos.{Pos}
 use Rattle.pvs_base.specs.declared.code.Code.{Code}
@@ -24,7 +25,7 @@ use Rattle.pvs_elaboration.specs.declared.listing.Form.{Form}
 use Rattle.pvs_elaboration.specs.Known.{Sources, phrase_among, place_among, word_among, phrase_at, place_in, word_at, Known, Failed}
 use Rattle.pvs_elaboration.specs.Meanings.{fault_at}
 use Rattle.pvs_elaboration.specs.Several.{words_at}
-use Rattle.pvs_elaboration.specs.Listing.{Lists, bytes_of, IsMore, IsPartAdded, IsPlaceAdded, IsNameAdded, IsLastName, AreNamesAdded, AreVariablesAdded, IsStartAdded, IsStartOf, IsForm, IsFormAdded, IsFormOf, IsFaultOrMemory, Same, OutOfMemory}
+use Rattle.pvs_elaboration.specs.Listing.{Lists, bytes_of, IsMore, IsPartAdded, IsPlaceAdded, IsNameAdded, IsLastName, AreNamesAdded, AreVariablesAdded, IsStartAdded, IsStartOf, IsForm, IsFormAdded, IsFormOf, AddsTo, IsFaultOrMemory, Same, OutOfMemory}
 
 place_among_listed : (f : Place → Pos) (xs : List Place) (ys : List Pos) (i : ℕ) (d : Place) → i < length xs → place_among (map f xs ++ ys) i ≡ f (get_or xs i d)
 place_among_listed f [] ys i d h = absurd (omega (arith, h))
@@ -236,7 +237,7 @@ variable_listed {l} {m} {n} vs k v {i} h e a b =
 pub variables_listed : {l m : Listing} (vs : List Binding) (k : ℕ) {i : ℕ} → length vs ≤ k → AreListed l m (names (bounds l.text.now (take k vs))) i → AreNamesAdded l m (names (bounds l.text.now vs)) i
 variables_listed {l} {m} vs k {i} h a = names_listed (subst (λ us. AreListed l m (names (bounds l.text.now us)) i) (take_all k vs h) a)
 
-names_length : (text : Text) (vs : List Binding) → length (names (bounds text vs)) ≡ length vs
+pub names_length : (text : Text) (vs : List Binding) → length (names (bounds text vs)) ≡ length vs
 names_length text [] = refl
 names_length text (v ∷ vs) = ap suc (names_length text vs)
 
@@ -248,3 +249,13 @@ scope_listed {l} {a} {b} {m} vs p pos {i} {at} {body} r s t = record {
   body = λ q h. t.is q h ∙ ap (λ (x : Text). parts.phrase_at x p) (s.more.text ∙ r.more.text);
   at = λ q h. s.is q (t.more.lists q h);
 }
+
+-- what is listed after a call, where it answers and where it fails
+pub adds : {A : Type 0} {l m : Listing} (r : Result A ElabFault) → IsMore l m → AddsTo l m r
+adds (Ok x) h = h
+adds (Err (elab_fault.At f)) h = h
+adds (Err elab_fault.Memory) h = tt
+
+pub adds_same : (A B : Type 0) (l m : Listing) (e : ElabFault) → AddsTo {A = A} l m (Err e) → AddsTo {A = B} l m (Err e)
+adds_same A B l m (elab_fault.At f) h = h
+adds_same A B l m elab_fault.Memory h = tt

@@ -1,6 +1,6 @@
 -- What a machine answers where the store has grown, and after each step.
 use Rattle.std.proofs.Common.{◌≡◌, ℕ, List, [], ◌∷◌, ◌++◌, refl, sym, ◌∙◌, ap, ap₂, subst}
-use Rattle.std.specs.Prelude.{reverse, Ok, Err}
+use Rattle.std.specs.Prelude.{reverse, Result, Ok, Err}
 use Rattle.std.proofs.lemmas.List.{reverse-append}
 use Rattle.pvs_base.specs.Answers.{◌>>=◌}
 use Rattle.pvs_terms.specs.Tree.{Tree}
@@ -39,6 +39,7 @@ use Rattle.pvs_elaboration.specs.declared.frame.Entrance.{Entrance}
 use Rattle.pvs_elaboration.specs.declared.frame.Entrance.TheVariants as entrance
 use Rattle.pvs_elaboration.specs.declared.frame.Next.{Next}
 use Rattle.pvs_elaboration.specs.declared.frame.Machine.{Machine}
+use Rattle.pvs_elaboration.specs.declared.frame.Turn.{Turn}
 use Rattle.pvs_elaboration.specs.Known.{Sources, Known, Grows, Site, site_in, IsHere, AreKnownNumbers, IsFault, Failed}
 use Rattle.pvs_elaboration.specs.Meanings.{Meaning, Typed, Term, Formed, meaning, value_numbers, typed_at, typed_answer, term_answer, formed_answer, on_typed, on_term, on_formed}
 use Rattle.pvs_elaboration.specs.Choice.{choice_answer, choice_numbers, not_answer, not_numbers}
@@ -46,8 +47,8 @@ use Rattle.pvs_elaboration.specs.Names.{name_answer, name_numbers}
 use Rattle.pvs_elaboration.specs.Apply.{apply_answer, apply_numbers}
 use Rattle.pvs_elaboration.specs.Binder.{binder_answer, binder_numbers}
 use Rattle.pvs_elaboration.specs.Equal.{equal_answer, equal_numbers}
-use Rattle.pvs_elaboration.specs.Machine.{frame_answer, frame_numbers, control_answer, entrance_site, entrance_numbers, next_answer, entries_answer, machine_answer, AreKnownEntries, IsKnownNext, IsMachine, IsEntered, IsAdded, IsKnownEntry, Follows, Goes, Finds}
-use Rattle.pvs_elaboration.proofs.KnownLaws.{grows_none, grows_trans, tree_stays, site_kept, here_stays, numbers_stay, hypothesis_site_is, hypothesis_site_stays, variable_site_is, variable_site_stays, unnamed_site_is, unnamed_site_stays, local_site_is, local_site_stays}
+use Rattle.pvs_elaboration.specs.Machine.{frame_answer, frame_numbers, control_answer, entrance_site, entrance_numbers, next_answer, entries_answer, machine_answer, AreKnownEntries, IsKnownNext, IsMachine, IsEntered, IsAdded, IsKnownEntry, Follows, Goes, Finds, Turns}
+use Rattle.pvs_elaboration.proofs.KnownLaws.{failed_then, memory_failed, grows_none, grows_trans, tree_stays, site_kept, here_stays, numbers_stay, hypothesis_site_is, hypothesis_site_stays, variable_site_is, variable_site_stays, unnamed_site_is, unnamed_site_stays, local_site_is, local_site_stays}
 use Rattle.pvs_elaboration.proofs.FormLaws.{let_stays, subtype_stays, predicate_stays, tuple_stays, product_stays, part_stays, several_stays, names_stay}
 
 -- One step of the definition, and then another: the value of the first goes to a frame.
@@ -310,3 +311,54 @@ started k text h m c e d = rw (e, d) (nothing_after (control_answer (site_in k t
 
 pub start_machine : {k : Known} (h : Here) (m : Machine) → IsHere k h → m.here ≡ h → m.entries.items ≡ [] → IsMachine k m
 start_machine {k} h m i e d = record { here = subst (IsHere k) (sym e) i; entries = subst (λ es. AreKnownEntries k (reverse es)) (sym d) tt }
+
+-- the numbers of two lists
+
+pub numbers_of_both : (k : Known) (is js : List (Sort × ℕ)) → AreKnownNumbers k is → AreKnownNumbers k js → AreKnownNumbers k (is ++ js)
+numbers_of_both k [] js n m = m
+numbers_of_both k (i ∷ is) js n m = (n.0, numbers_of_both k is js n.1 m)
+
+pub numbers_of_first : (k : Known) (is js : List (Sort × ℕ)) → AreKnownNumbers k (is ++ js) → AreKnownNumbers k is
+numbers_of_first k [] js n = tt
+numbers_of_first k (i ∷ is) js n = (n.0, numbers_of_first k is js n.1)
+
+pub numbers_of_second : (k : Known) (is js : List (Sort × ℕ)) → AreKnownNumbers k (is ++ js) → AreKnownNumbers k js
+numbers_of_second k [] js n = n
+numbers_of_second k (i ∷ is) js n = numbers_of_second k is js n.1
+
+-- A turn, after a step at the place of the machine.
+
+pub turn_goes_on : {a b : Known} (text : Sources) (m : Machine) (c : Control) (n : Next) (o : Machine) (d : Control) → IsMachine a m → Follows a b text m.here (control_answer (site_in a text m.here) a.stored text c) n → IsAdded m n o → d ≡ n.control
+    → Goes a b text (machine_answer a text m c) o d
+turn_goes_on {a} {b} text m c n o d i f x e = rw e (goes_same text (control_answer (site_in a text m.here) a.stored text c >>= entries_answer a text m.here (reverse m.entries.items)) (machine_answer a text m c) o n.control (asked_answer a text m c) (turn_goes text m (control_answer (site_in a text m.here) a.stored text c) n o i f x))
+
+pub turn_fails : {a b : Known} (text : Sources) (m : Machine) (c : Control) (e : ElabFault) → Failed a b (control_answer (site_in a text m.here) a.stored text c) e → Failed a b (machine_answer a text m c) e
+turn_fails {a} text m c e f = failed_same (control_answer (site_in a text m.here) a.stored text c >>= entries_answer a text m.here (reverse m.entries.items)) (machine_answer a text m c) e (asked_answer a text m c) (failed_then (entries_answer a text m.here (reverse m.entries.items)) e f)
+
+pub turn_is_out_of_memory : {a b : Known} (r : Answer Meaning) (e : ElabFault) → Grows a b → e ≡ elab_fault.Memory → Failed a b r e
+turn_is_out_of_memory r e g d = rw d (memory_failed r g)
+
+-- A value, and the frame that it is for.
+
+pub given_used : {k : Known} (text : Sources) (m : Machine) (f : Frame) (n : Machine) (v : Value) → IsMachine k m → m.entries.items ≡ n.entries.items ++ entry.Use f ∷ [] → n.here ≡ m.here → AreKnownNumbers k (value_numbers v)
+    → Goes k k text (machine_answer k text m (control.Give v)) n (control.Use f v)
+given_used {k} text m f n v i e h x = record {
+  kept = grows_none k;
+  machine = popped_machine (entry.Use f) n i e h;
+  control = numbers_of_both k (value_numbers v) (frame_numbers f) x (popped_entries n.entries.items (entry.Use f) i e).0;
+  is = used_answer k text m f n v e h ∙ sym (asked_answer k text n (control.Use f v));
+}
+
+-- the frame gives it on as it is
+pub given_same : {k : Known} (text : Sources) (m : Machine) (n : Machine) (v : Value) → IsMachine k m → m.entries.items ≡ n.entries.items ++ entry.Use frame.Same ∷ [] → n.here ≡ m.here → AreKnownNumbers k (value_numbers v)
+    → Goes k k text (machine_answer k text m (control.Give v)) n (control.Give v)
+given_same {k} text m n v i e h x = record {
+  kept = grows_none k;
+  machine = popped_machine (entry.Use frame.Same) n i e h;
+  control = x;
+  is = used_answer k text m frame.Same n v e h ∙ sym (asked_answer k text n (control.Give v));
+}
+
+-- a turn of a control that is this one
+pub turn_of : (a b : Known) (text : Sources) (m : Machine) (c d : Control) (o : Machine) (r : Result Turn ElabFault) → c ≡ d → Turns a b text (machine_answer a text m d) o r → Turns a b text (machine_answer a text m c) o r
+turn_of a b text m c d o r e h = subst (λ x. Turns a b text (machine_answer a text m x) o r) (sym e) h

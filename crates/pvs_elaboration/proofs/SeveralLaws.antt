@@ -7,7 +7,6 @@ use Rattle.pvs_terms.specs.Tree.{Tree, Fst, Snd}
 use Rattle.pvs_terms.specs.Stored.{tree_at}
 use Rattle.pvs_subst.specs.Contexts.{Variable}
 use Rattle.pvs_typing.specs.Answers.{Gives}
-use Rattle.pvs_elab.specs.Phrase as phrase
 use Rattle.pvs_elab.specs.Elab.{TypedTree, lifted_locals, parts_onto, under_variable}
 use Rattle.pvs_elab.specs.Elab as definition
 use Rattle.pvs_elaboration.specs.declared.here.Here.{Here}
@@ -27,11 +26,10 @@ use Rattle.pvs_elaboration.specs.declared.frame.Next.{Next}
 use Rattle.pvs_elaboration.specs.Known.{Sources, phrase_at, place_in, word_at, Known, Grows, Site, site_in, local_site, parts_site, IsHere, IsTypeOf, IsTermOf, AreKnownNumbers}
 use Rattle.pvs_elaboration.specs.Meanings.{Typed, Term, Formed, Done, typed_answer, term_answer, formed_answer, on_typed, on_term, on_formed, elab_at}
 use Rattle.pvs_elaboration.specs.Binder.{lambda_body, function_range}
-use Rattle.pvs_elaboration.specs.Several.{words_at, several_lambda, several_predicate, several_function, several_answer}
+use Rattle.pvs_elaboration.specs.Several.{words_at, several_answer}
 use Rattle.pvs_elaboration.specs.Machine.{asked_at, mode_numbers, names_answer, Follows}
 use Rattle.pvs_elaboration.proofs.MachineLaws.{then_typed, then_term, then_formed, nothing_after}
 use Rattle.pvs_elaboration.proofs.StepLaws.{given, given_follows, follows_at_once, follows_same}
-use Rattle.pvs_elaboration.proofs.AskLaws.{asked_then}
 
 -- what asks the body of several variables
 abbrev pub asked_named : ℕ → ℕ → ℕ → Variables → Mode → Frame → Next
@@ -40,33 +38,7 @@ asked_named v c n o m f = record { entrance = entrance.Unnamed c; control = cont
 abbrev pub binding_of : Variables → Binding
 binding_of o = record { name = o.first; body = o.body; at = o.at }
 
--- the type of the variables is asked first
-
-pub lambda_asked : {k : Known} (text : Sources) (h : Here) (d : ℕ) (o : Variables)
-    → Follows k k text h (asked_at (site_in k text h) k.stored text mode.Infer (phrase.Lambda (phrase_at text d) (words_at text o.first o.count) (phrase_at text o.body) (place_in text o.at))) (asked_then d mode.Formed (frame.Several several.Lambda o))
-unfolding site_in
-lambda_asked {k} text h d o =
-    let z = site_in k text h in
-    follows_at_once text h _ _ (record { entrance = tt; control = tt; frame = tt })
-    (then_formed ((elab_at z text d).formed z.here) (several_lambda z (words_at text o.first o.count) (elab_at z text o.body) (place_in text o.at)) (λ (t : TypedTree). Ok (Typed t)))
-
-pub predicate_asked : {k : Known} (text : Sources) (h : Here) (d : ℕ) (o : Variables)
-    → Follows k k text h (asked_at (site_in k text h) k.stored text mode.Predicate (phrase.Lambda (phrase_at text d) (words_at text o.first o.count) (phrase_at text o.body) (place_in text o.at))) (asked_then d mode.Formed (frame.Several several.Predicate o))
-unfolding site_in
-predicate_asked {k} text h d o =
-    let z = site_in k text h in
-    follows_at_once text h _ _ (record { entrance = tt; control = tt; frame = tt })
-    (then_formed ((elab_at z text d).formed z.here) (several_predicate z (words_at text o.first o.count) (elab_at z text o.body)) (λ (u : Unit {0}). Ok Done))
-
-pub function_asked : {k : Known} (text : Sources) (h : Here) (d : ℕ) (o : Variables)
-    → Follows k k text h (asked_at (site_in k text h) k.stored text mode.Formed (phrase.Function (phrase_at text d) (words_at text o.first o.count) (phrase_at text o.body) (place_in text o.at))) (asked_then d mode.Formed (frame.Several several.Function o))
-unfolding site_in
-function_asked {k} text h d o =
-    let z = site_in k text h in
-    follows_at_once text h _ _ (record { entrance = tt; control = tt; frame = tt })
-    (then_formed ((elab_at z text d).formed z.here) (several_function z (words_at text o.first o.count) (elab_at z text o.body) (place_in text o.at)) (λ (t : Tree). Ok (Formed t)))
-
--- then the body, under the variable with names for its parts
+-- after the type of the variables, the body is asked, under the variable with names for its parts
 
 abbrev named_here : Site → Sources → ℕ → ℕ → Tree → Tree → definition.Here
 named_here z text i n v c = record { locals = parts_onto (lifted_locals z.here.locals) v (words_at text i n); context = Variable c ∷ z.here.context }

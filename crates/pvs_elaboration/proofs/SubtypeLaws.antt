@@ -34,23 +34,15 @@ use Rattle.pvs_elaboration.specs.declared.frame.Next.{Next}
 use Rattle.pvs_elaboration.specs.Known.{Sources, phrase_at, place_in, word_at, Known, Grows, Site, site_in, IsHere, IsTypeOf, IsTermOf, Failed}
 use Rattle.pvs_elaboration.specs.Meanings.{Typed, Term, Formed, typed_at, typed_answer, formed_answer, on_typed, fault_of, fault_at, elab_at}
 use Rattle.pvs_elaboration.specs.Names.{accepted_at}
-use Rattle.pvs_elaboration.specs.Subtypes.{subtype_tree, subtype_type, subtype_answer, predicate_application, predicate_lifted, predicate_subtype, predicate_range, predicate_head, predicate_type, predicate_answer}
+use Rattle.pvs_elaboration.specs.Subtypes.{subtype_tree, subtype_answer, predicate_application, predicate_lifted, predicate_subtype, predicate_range, predicate_head, predicate_type, predicate_answer}
 use Rattle.pvs_elaboration.specs.Machine.{asked_at, made_answer, made_type_answer, Follows, Steps}
 use Rattle.pvs_elaboration.proofs.KnownLaws.{grows_none, within_limits_made, large_failed}
-use Rattle.pvs_elaboration.proofs.MachineLaws.{then_typed, then_term, then_formed, then_same, then_two, failed_same}
+use Rattle.pvs_elaboration.proofs.MachineLaws.{then_typed, then_term, then_same, then_two, failed_same}
 use Rattle.pvs_elaboration.proofs.StepLaws.{given, given_follows, follows_at_once, follows_same, steps_same, type_found, type_refused as refused_type}
 use Rattle.pvs_elaboration.proofs.AskLaws.{asked_then, elab_place}
 use Rattle.pvs_elaboration.proofs.BinderLaws.{asked_below, part_first}
 
--- A predicate subtype: the type of the variable is asked first, then the predicate.
-
-pub subtype_asked : {k : Known} (text : Sources) (h : Here) (c : ℕ) (o : Binding)
-    → Follows k k text h (asked_at (site_in k text h) k.stored text mode.Formed (phrase.Sub (word_at text o.name) (phrase_at text c) (phrase_at text o.body) (place_in text o.at))) (asked_then c mode.Formed (frame.Subtype subtype.Type o))
-unfolding site_in
-subtype_asked {k} text h c o =
-    let z = site_in k text h in
-    follows_at_once text h _ _ (record { entrance = tt; control = tt; frame = tt })
-    (then_formed ((elab_at z text c).formed z.here) (subtype_type z (word_at text o.name) (elab_at z text o.body) (place_in text o.at)) (λ (t : Tree). Ok (Formed t)))
+-- A predicate subtype: after the type of the variable, the predicate is asked.
 
 pub subtype_follows : {k : Known} (text : Sources) (h : Here) (o : Binding) (c : ℕ) → IsHere k h → IsTypeOf k c
     → Follows k k text h (subtype_answer (site_in k text h) k.stored text subtype.Type o (Formed (tree_at k.stored c))) (asked_below o c (mode.Check h.truth) (frame.Subtype (subtype.Predicate c) o))

@@ -12,7 +12,6 @@ use Rattle.pvs_subst.specs.Replace.{lift}
 use Rattle.pvs_types.specs.Coerce.{lift_one}
 use Rattle.pvs_typing.specs.Answers.{Gives}
 use Rattle.pvs_elab.specs.Answer.{within_limits_at}
-use Rattle.pvs_elab.specs.Phrase as phrase
 use Rattle.pvs_elab.specs.Elab.{TypedTree, under_name}
 use Rattle.pvs_elaboration.specs.declared.fault.ElabFault.{ElabFault}
 use Rattle.pvs_elaboration.specs.declared.here.Here.{Here}
@@ -25,25 +24,17 @@ use Rattle.pvs_elaboration.specs.declared.tuples.TupleRow.TheVariants as tuple
 use Rattle.pvs_elaboration.specs.declared.tuples.ProductRow.TheVariants as product
 use Rattle.pvs_elaboration.specs.declared.frame.Frame.TheVariants as frame
 use Rattle.pvs_elaboration.specs.declared.frame.Next.{Next}
-use Rattle.pvs_elaboration.specs.Known.{Sources, phrase_at, place_in, word_at, Known, Grows, site_in, IsHere, IsTypeOf, IsTermOf, AreKnownNumbers, Failed}
+use Rattle.pvs_elaboration.specs.Known.{Sources, place_in, word_at, Known, Grows, site_in, IsHere, IsTypeOf, IsTermOf, AreKnownNumbers, Failed}
 use Rattle.pvs_elaboration.specs.Meanings.{Typed, Term, Formed, value_numbers, typed_at, typed_answer, fault_at, elab_at}
-use Rattle.pvs_elaboration.specs.Tuples.{tuple_lifted, tuple_tree, tuple_second, tuple_first, tuple_answer, product_second, product_first, product_answer}
-use Rattle.pvs_elaboration.specs.Machine.{asked_at, made_answer, made_type_answer, Follows, Steps}
+use Rattle.pvs_elaboration.specs.Tuples.{tuple_lifted, tuple_tree, tuple_second, tuple_answer, product_second, product_answer}
+use Rattle.pvs_elaboration.specs.Machine.{made_answer, made_type_answer, Follows, Steps}
 use Rattle.pvs_elaboration.proofs.KnownLaws.{within_limits_made, large_failed}
 use Rattle.pvs_elaboration.proofs.MachineLaws.{then_typed, then_formed, then_same, failed_same}
 use Rattle.pvs_elaboration.proofs.StepLaws.{given, given_follows, follows_at_once, follows_same, steps_same}
 use Rattle.pvs_elaboration.proofs.AskLaws.{asked_then}
 use Rattle.pvs_elaboration.proofs.BinderLaws.{asked_below, part_first}
 
--- A tuple: the first component is asked first, then the others.
-
-pub tuple_asked : {k : Known} (text : Sources) (h : Here) (x : ℕ) (o : Pair)
-    → Follows k k text h (asked_at (site_in k text h) k.stored text mode.Infer (phrase.Tuple o.beyond (phrase_at text x) (phrase_at text o.second) (place_in text o.at))) (asked_then x mode.Infer (frame.Tuple tuple.First o))
-unfolding site_in
-tuple_asked {k} text h x o =
-    let z = site_in k text h in
-    follows_at_once text h _ _ (record { entrance = tt; control = tt; frame = tt })
-    (then_typed ((elab_at z text x).infer z.here) (tuple_first z (elab_at z text o.second) o.beyond (place_in text o.at)) (λ (t : TypedTree). Ok (Typed t)))
+-- A tuple: after the first component, the others are asked.
 
 pub first_follows : {k : Known} (text : Sources) (h : Here) (o : Pair) (a : here.Typed) → AreKnownNumbers k (value_numbers (value.Typed a))
     → Follows k k text h (tuple_answer (site_in k text h) k.stored text tuple.First o (Typed (typed_at k.stored a))) (asked_then o.second mode.Infer (frame.Tuple (tuple.Second a) o))
@@ -95,15 +86,7 @@ lifted_row k j text h o t c d n res e s =
     (then_same (within_limits_at (place_in text o.at) (TPair (suc (suc o.beyond)) (tree_at k.stored c) (tree_at k.stored d))) (λ (u : Tree). Ok (record { tree = tree_at k.stored t; ty = u })) (λ (t : TypedTree). Ok (Typed t))
     ∙ ap (λ (m : ℕ). within_limits_at (place_in text o.at) (TPair m (tree_at k.stored c) (tree_at k.stored d)) >>= (λ u. Ok (Typed (record { tree = tree_at k.stored t; ty = u })))) (sym e)) s
 
--- A type of tuples: the type of the first component is asked first, then that of the others, under a variable for the first.
-
-pub product_asked : {k : Known} (text : Sources) (h : Here) (c n : ℕ) (o : Binding)
-    → Follows k k text h (asked_at (site_in k text h) k.stored text mode.Formed (phrase.Product n (word_at text o.name) (phrase_at text c) (phrase_at text o.body) (place_in text o.at))) (asked_then c mode.Formed (frame.Product product.First n o))
-unfolding site_in
-product_asked {k} text h c n o =
-    let z = site_in k text h in
-    follows_at_once text h _ _ (record { entrance = tt; control = tt; frame = tt })
-    (then_formed ((elab_at z text c).formed z.here) (product_first z (word_at text o.name) (elab_at z text o.body) n (place_in text o.at)) (λ (t : Tree). Ok (Formed t)))
+-- A type of tuples: after the type of the first component, that of the others is asked, under a variable for the first.
 
 pub product_follows : {k : Known} (text : Sources) (h : Here) (n : ℕ) (o : Binding) (c : ℕ) → IsTypeOf k c
     → Follows k k text h (product_answer (site_in k text h) k.stored text product.First n o (Formed (tree_at k.stored c))) (asked_below o c mode.Formed (frame.Product (product.Second c) n o))

@@ -12,3 +12,4 @@ pub mod Parts
 pub mod Several
 pub mod Machine
 pub mod Listing
+pub mod Outermost

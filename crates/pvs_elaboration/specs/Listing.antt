@@ -1,5 +1,5 @@
 -- What is listed, as the text has it.
-use Rattle.std.specs.Prelude.{◌≡◌, ℕ, suc, length, List, [], ◌∷◌, ◌++◌, map}
+use Rattle.std.specs.Prelude.{◌≡◌, ℕ, suc, length, List, [], ◌∷◌, ◌++◌, map, Result, Ok, Err}
 use Rattle.std.specs.Borrow.{Bor}
 use Rattle.pvs_base.specs.declared.place.Pos.{Pos}
 use Rattle.pvs_terms.specs.Tree.{Text}
@@ -43,7 +43,7 @@ abbrev pub IsForm : Sources → Form → Phrase → Type 0
 IsForm t (form.Name x p) e = e ≡ phrase.Name (word_at t x) (place_in t p)
 IsForm t (form.Truth b p) e = e ≡ phrase.Truth b (place_in t p)
 IsForm t (form.TypeOf x p) e = e ≡ phrase.TypeOf (word_at t x) (place_in t p)
-IsForm t (form.Group x p) e = e ≡ phrase.Group (phrase_at t x) (place_in t p)
+IsForm t (form.Group x start p) e = (e ≡ phrase.Group (phrase_at t x) (place_in t p)) × (place_in t start ≡ place (phrase_at t x))
 IsForm t (form.Not x p) e = e ≡ phrase.Not (phrase_at t x) (place_in t p)
 IsForm t (form.Choice c b) e =
     (e ≡ phrase.Choice b.early (phrase_at t c) (phrase_at t b.first) (phrase_at t b.second) (place_in t b.join) (place_in t b.at))
@@ -141,6 +141,12 @@ pub record IsFormOf (l m : Listing) (i : ℕ) (f : Form) (at : ℕ) : Type 0 whe
 pub record IsStartOf (l m : Listing) (i at : ℕ) : Type 0 where
   pub more : IsMore l m
   pub is : (t : Sources) → Lists m t → place_in t at ≡ place (phrase_at t i)
+
+-- what a call leaves of what was listed, unless memory ran out
+abbrev pub AddsTo : {A : Type 0} → Listing → Listing → Result A ElabFault → Type 0
+AddsTo l m (Ok x) = IsMore l m
+AddsTo l m (Err (elab_fault.At f)) = IsMore l m
+AddsTo l m (Err elab_fault.Memory) = Unit {0}
 
 -- this fault, or memory ran out
 pub data IsFaultOrMemory (f e : ElabFault) : Type 0 where

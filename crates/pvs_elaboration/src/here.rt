@@ -1,6 +1,7 @@
 //! Where an expression stands.
 
-ghost use Rattle.std.specs.Prelude.{◌≡◌, ◌∷◌, IfOk};
+ghost use Rattle.std.specs.Prelude.{◌≡◌, ◌∷◌, IfOk, IfErr};
+ghost use Rattle.pvs_elaboration.specs.declared.fault.ElabFault.TheVariants as elab_fault;
 ghost use Rattle.pvs_elaboration.specs.Known.{IsUnder, IsBelow, IsNamed, IsUnnamed};
 
 use crate::fault::ElabFault;
@@ -99,7 +100,8 @@ impl Here {
     ///
     /// Memory also where the number of variables is too great.
     pub(crate) fn with_unnamed(&self, alloc: Global, ty: Id) -> Result<Here, ElabFault>
-        ensures { IfOk result (IsUnnamed self.now ty) }
+        ensures memory { IfErr result (λ e. e ≡ elab_fault.Memory) }
+        ensures under { IfOk result (IsUnnamed self.now ty) }
     {
         if self.depth == u32::MAX {
             return Err(ElabFault::Memory);
@@ -153,7 +155,8 @@ impl Here {
         name: usize,
         ty: Id,
     ) -> Result<Here, ElabFault>
-        ensures { IfOk result (IsBelow self.now name ty) }
+        ensures memory { IfErr result (λ e. e ≡ elab_fault.Memory) }
+        ensures under { IfOk result (IsBelow self.now name ty) }
     {
         if self.depth == u32::MAX {
             return Err(ElabFault::Memory);

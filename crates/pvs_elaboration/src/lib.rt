@@ -2,6 +2,7 @@
 #![tactic(auto)]
 
 mod apply;
+mod ask;
 mod binder;
 mod choice;
 mod equal;
@@ -14,6 +15,7 @@ mod listing;
 mod machine;
 mod making;
 mod names;
+mod outermost;
 mod parts;
 mod scope;
 mod several;
@@ -24,5 +26,6 @@ mod value;
 
 pub use fault::ElabFault;
 pub use here::{Here, Local, Typed};
+pub use outermost::{Wanted, elaborate, elaborate_under_names, elaborate_under_parameters};
 pub use scope::Scope;
 pub use value::{Mode, Value};

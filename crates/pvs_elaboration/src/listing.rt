@@ -46,7 +46,8 @@ pub(crate) enum Form {
     Truth(bool, usize),
     /// The type that the VAR of this name has.
     TypeOf(usize, usize),
-    Group(usize, usize),
+    /// What stands in the parentheses, where it begins, and the place of the whole.
+    Group(usize, usize, usize),
     Not(usize, usize),
     /// The condition, and the branches.
     Choice(usize, Branches),
@@ -99,7 +100,7 @@ fn add_place<'a>(listing: &mut Listing<'a>, place: Place<'a>) -> Result<usize, A
 }
 
 /// The number of a name.
-fn add_name<'a>(listing: &mut Listing<'a>, name: &'a [u8]) -> Result<usize, AllocError>
+pub(crate) fn add_name<'a>(listing: &mut Listing<'a>, name: &'a [u8]) -> Result<usize, AllocError>
     ensures { IfOk result (IsNameAdded listing.old listing.new name.now) }
 {
     let number = listing.names.len();
@@ -140,6 +141,16 @@ fn list_nullary<'a>(listing: &mut Listing<'a>, form: Nullary<'a>) -> Result<Form
             Ok(Form::Other(at))
         }
     }
+}
+
+/// Parentheses.
+fn list_group<'a>(listing: &mut Listing<'a>, inner: Part<'a>, pos: Pos) -> Result<Form, AllocError>
+    ensures { IfOk result (IsFormAdded listing.old listing.new (phrase.Group (phrase_at listing.old.text.now inner.entry) pos)) }
+{
+    let start = add_start(listing, inner)?;
+    let at = add_place(listing, Place::At(pos))?;
+    let inner = add_part(listing, inner)?;
+    Ok(Form::Group(inner, start, at))
 }
 
 /// A predicate as a type.
@@ -188,11 +199,7 @@ fn list_unary<'a>(
     ensures { IfOk result (IsFormAdded listing.old listing.new (unary_phrase listing.old.text.now form.entry (phrase_at listing.old.text.now part.entry))) }
 {
     match form {
-        Unary::Group(pos) => {
-            let part = add_part(listing, part)?;
-            let at = add_place(listing, Place::At(pos))?;
-            Ok(Form::Group(part, at))
-        }
+        Unary::Group(pos) => list_group(listing, part, pos),
         Unary::Not(place) => {
             let part = add_part(listing, part)?;
             let at = add_place(listing, place)?;
@@ -278,7 +285,7 @@ fn list_variable<'a>(listing: &mut Listing<'a>, variable: &'a Variable) -> Resul
 
 /// The number of the first of the names of these variables, which are listed one after another.
 #[tactic(auto, using(crate::proofs::ListingLaws::none_listed, crate::proofs::ListingLaws::variable_listed, crate::proofs::ListingLaws::variables_listed))]
-fn list_names<'a>(
+pub(crate) fn list_names<'a>(
     listing: &mut Listing<'a>,
     variables: &'a Items<Variable>,
 ) -> Result<usize, AllocError>

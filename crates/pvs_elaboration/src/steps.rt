@@ -66,7 +66,7 @@ pub(crate) fn coerce<S: Scope>(
 
 /// What is done with a value.
 #[tactic(auto, using(crate::proofs::StepLaws::same_follows, crate::proofs::StepLaws::coerce_follows, crate::proofs::StepLaws::with_type_follows, crate::proofs::StepLaws::with_term_follows))]
-pub(crate) fn frame_answer<S: Scope>(
+pub(crate) fn resume<S: Scope>(
     scope: &mut S,
     listing: &Listing,
     here: &Here,

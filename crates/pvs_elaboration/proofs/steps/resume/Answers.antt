@@ -1,4 +1,4 @@
-use Rattle.pvs_elaboration.proofs.steps.frame_answer.Goals as goal
+use Rattle.pvs_elaboration.proofs.steps.resume.Goals as goal
 
 pub returns-in-Several : goal.returns-in-Several
 returns-in-Several g c = λ t l. rw c.in-Several.is (c.resume_several.ensures t)

@@ -1,0 +1,15 @@
+use Rattle.pvs_elaboration.specs.declared.frame.Control.TheVariants as spec_control
+use Rattle.pvs_elaboration.specs.Machine.{machine_answer}
+use Rattle.pvs_elaboration.proofs.MachineLaws.{turn_fails, turn_goes_on, turn_is_out_of_memory}
+use Rattle.pvs_elaboration.proofs.machine.turn_coerced.Goals as goal
+
+pub returns-in-Ok-add : goal.returns-in-Ok-add
+returns-in-Ok-add g c = λ t h.
+    turn_goes_on t c.args.machine.now (spec_control.Coerce c.args.term c.args.large c.args.at c.args.want) c.in-Ok.next c.add.new.machine c.in-Ok-add.control c.requires.machine (c.in-Ok.ensures t h) c.in-Ok-add.ensures.machine c.in-Ok-add.ensures.control
+
+pub returns-in-Err-add : goal.returns-in-Err-add
+returns-in-Err-add g c = λ t h.
+    turn_is_out_of_memory (machine_answer (g.S.Scope.known c.args.scope.now) t c.args.machine.now (spec_control.Coerce c.args.term c.args.large c.args.at c.args.want)) c.in-Err-add.fault (c.in-Ok.ensures t h).kept c.in-Err-add.ensures.memory
+
+pub returns-in-Err : goal.returns-in-Err
+returns-in-Err g c = λ t h. turn_fails t c.args.machine.now (spec_control.Coerce c.args.term c.args.large c.args.at c.args.want) c.in-Err.fault (c.in-Err.ensures t h)
