@@ -5,3 +5,5 @@ pub mod NameLaws
 pub mod OutcomeLaws
 pub mod EntryLaws
 pub mod StartLaws
+pub mod NonemptyLaws
+pub mod ExistenceLaws

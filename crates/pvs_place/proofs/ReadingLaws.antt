@@ -8,7 +8,7 @@ use Rattle.pvs_terms.specs.declared.shape.Sort.TheVariants.{OfType, OfTerm}
 use Rattle.pvs_terms.specs.Stored.{Stored, Stands, text_at}
 use Rattle.pvs_sig.specs.Signature.{Signature, Kind}
 use Rattle.pvs_sig.specs.Development.{Development, IsDevelopment, IsDeclared, HasSort, kind_of}
-use Rattle.pvs_sig.specs.LookupsOf.{lookups_of, constant_type, is_type_kind}
+use Rattle.pvs_sig.specs.LookupsOf.{lookups_of, constant_type, is_nonempty_kind, is_type_kind}
 use Rattle.pvs_sig.specs.Ranks.{type_body}
 use Rattle.pvs_sig.proofs.AdditionLaws.{same_kind}
 use Rattle.pvs_sig.proofs.DeclaredLaws.{later_ref}
@@ -36,6 +36,7 @@ pub record Reads (d : Development) (th : Text) (s : Stored) (r : Ref) : Type 0 w
   pub body_known : IsDeclaredIn d OfType r → (o : Option ℕ) → GivesOption s (definition (kind_from d th r)) o → IsOptionKnown s (IsDeclaredIn d) o
   pub body_large : IsDeclaredIn d OfType r → PassesLimit (definition (kind_from d th r)) → body (lookups_in d) r ≡ Err code.TooLarge
   pub is_type : IsDeclaredIn d OfType r → (lookups_in d).is_type r ≡ true
+  pub is_nonempty : IsDeclaredIn d OfType r → (lookups_in d).is_nonempty r ≡ is_nonempty_kind (kind_from d th r)
 
 -- a number that stands for the tree, or for the one that there may be
 given_type : (s : Stored) (f : Ref → Option Tree) (r : Ref) (z : Option Tree) (i : ℕ) → f r ≡ z → GivesTree s z i → IsType s f r i
@@ -111,6 +112,7 @@ module _ (d : Development) (g : Signature) (standing : IsDevelopment (g ∷ d)) 
     body_known = λ h o k. body_is_known h (definition (kind_from (g ∷ d) g.name r)) o refl k;
     body_large = λ h k. ap small_body (body_same h) ∙ large_body (definition (kind_from (g ∷ d) g.name r)) k;
     is_type = λ h. ap is_type_kind (finds_kinds d g r (declared_ref d g OfType r h)) ∙ type_kind (kind_of d g r) (declared_kind d g OfType r h);
+    is_nonempty = λ h. ap is_nonempty_kind (finds_kinds d g r (declared_ref d g OfType r h) ∙ sym (kind_same OfType h));
   }
 
 -- of the theories that stand

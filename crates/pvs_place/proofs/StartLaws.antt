@@ -11,7 +11,8 @@ use Rattle.pvs_typing.specs.Growth.{IsKnownContext}
 use Rattle.pvs_elaboration.specs.declared.here.Here.{Here}
 use Rattle.pvs_elaboration.specs.Known.{Known, Grows, AreLocals}
 use Rattle.pvs_elaboration.proofs.KnownLaws.{number_stays, tree_stays, grows_trans}
-use Rattle.pvs_place.specs.Place.{lookups_in, IsLatest, IsOutermost}
+use Rattle.pvs_elaboration.specs.Outermost.{IsOutermost}
+use Rattle.pvs_place.specs.Place.{lookups_in, IsLatest}
 
 pub latest_ordered : (v : InstancesView) (n : ℕ) → IsLatest v n → IsDevelopment (development v) → IsOrdered (lookups_in (development v))
 latest_ordered v n h standing =

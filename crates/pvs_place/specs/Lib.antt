@@ -1,3 +1,4 @@
 pub mod Place
 pub mod NextEntry
+pub mod Existence
 pub mod code

@@ -13,8 +13,7 @@ use Rattle.pvs_instantiate.specs.InstancesView.{InstancesView, development}
 use Rattle.pvs_typing.specs.Development.{no_lookups}
 use Rattle.pvs_typing.specs.State.{State}
 use Rattle.pvs_elab.specs.Names.{Names, names_at}
-use Rattle.pvs_elaboration.specs.declared.here.Here.{Here}
-use Rattle.pvs_elaboration.specs.Known.{Known, IsHere, IsTypeOf}
+use Rattle.pvs_elaboration.specs.Known.{Known, IsTypeOf}
 use Rattle.pvs_scope.specs.declared.place.PlaceNames.{PlaceNames}
 use Rattle.pvs_scope.specs.NamesAt.{NamesAt}
 
@@ -74,10 +73,3 @@ pub record IsPlace (v : InstancesView) (theory : ℕ) (n : PlaceNames) : Type 0 
 pub record IsTypedVariable (v : InstancesView) (x : Text) (p : ℕ × ℕ) : Type 0 where
   pub known : IsTypeOf (known_in v.store (development v)) p.1
   pub is : (names_in (development v)).variable_named x ≡ Ok (record { reference = ref_at v.store p.0; ty = tree_at v.store p.1 })
-
--- where no name is local and nothing is assumed
-pub record IsOutermost (k : Known) (h : Here) : Type 0 where
-  pub here : IsHere k h
-  pub locals : h.locals ≡ []
-  pub context : h.context.items ≡ []
-  pub depth : h.depth ≡ 0

@@ -1,1 +1,3 @@
 pub mod Sorted
+pub mod Nonempty
+pub mod Existence

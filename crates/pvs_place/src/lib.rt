@@ -2,8 +2,10 @@
 //! names stand for, and how the theory grows.
 #![tactic(auto)]
 
+mod existence;
 mod growth;
 mod names;
+mod nonempty;
 mod place;
 mod predicate;
 mod scope;

@@ -8,7 +8,8 @@ ghost use Rattle.pvs_instantiate.specs.InstancesView.{Leaves, development};
 ghost use Rattle.pvs_typing.specs.Answers.{Gives};
 ghost use Rattle.pvs_typing.specs.Nodes.{HasKnownParts};
 ghost use Rattle.pvs_elaboration.specs.Known.{Grows};
-ghost use Rattle.pvs_place.specs.Place.{IsDeclaredIn, IsOutermost, known_in, lookups_in};
+ghost use Rattle.pvs_elaboration.specs.Outermost.{IsOutermost};
+ghost use Rattle.pvs_place.specs.Place.{IsDeclaredIn, known_in, lookups_in};
 
 use crate::place::Place;
 use pvs_cache::Judgements;
@@ -40,7 +41,7 @@ impl<J: Judgements> Place<J> {
     }
 
     /// Each defined type is larger than its body. It does nothing.
-    fn ordered(&self)
+    pub(crate) fn ordered(&self)
         ensures { IsOrdered (lookups_in (development self.now)) }
     {
         self.instances.soundness();
