@@ -1,0 +1,16 @@
+pub mod Stacks
+pub mod Runs
+pub mod Completeness
+pub mod Meanings
+pub mod Completions
+pub mod Levels
+pub mod HeldTokens
+pub mod QuotePlaces
+pub mod Taken
+pub mod Refusals
+pub mod Verdicts
+pub mod Decimal
+pub mod Turns
+pub mod Spans
+pub mod ScriptTrees
+pub mod CallerLemmas
