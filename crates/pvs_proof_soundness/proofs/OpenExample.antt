@@ -33,44 +33,44 @@ use Rattle.pvs_proof_soundness.specs.OpenFormulas.{LemmasCanBeFalse}
 
 -- ---- The declarations.
 
-abbrev text : Text
+abbrev pub text : Text
 text = codes "t: THEORY BEGIN T: TYPE p: [T -> bool] x: VAR T l: LEMMA p(x) END t"
 
 -- a place of the text, which is one line, by its offset
-abbrev at : ℕ → Pos
+abbrev pub at : ℕ → Pos
 at offset = record { line = 1; col = suc offset }
 
-abbrev word : ℕ → ℕ → Word
+abbrev pub word : ℕ → ℕ → Word
 word from to = record { start = from; end = to; pos = at from }
 
-abbrev plain : Word → NameExpr
+abbrev pub plain : Word → NameExpr
 plain w = roll-NameExpr (record { qualifier = None; word = w })
 
-abbrev named_type : Word → TypeExpr
+abbrev pub named_type : Word → TypeExpr
 named_type w = type_expr.NameType (plain w)
 
-abbrev named_term : Word → Expr
+abbrev pub named_term : Word → Expr
 named_term w = expr.NameTerm (plain w)
 
-abbrev component : Binding
+abbrev pub component : Binding
 component = roll-Binding (record { word = word 28 28; ty = Some (named_type (word 28 29)) })
 
-abbrev function_type : TypeExpr
+abbrev pub function_type : TypeExpr
 function_type = type_expr.FunType (component ∷ []) (named_type (word 33 37)) (at 27)
 
-abbrev application : Expr
+abbrev pub application : Expr
 application = expr.Apply (named_term (word 57 58)) (named_term (word 59 60) ∷ [])
 
-abbrev type_decl : Decl
+abbrev pub type_decl : Decl
 type_decl = decl.TypeDecl (word 16 17) false
 
-abbrev constant_p : Decl
+abbrev pub constant_p : Decl
 constant_p = decl.ConstDecl (word 24 25) [] function_type None
 
-abbrev variable_x : Decl
+abbrev pub variable_x : Decl
 variable_x = decl.VarDecl (word 39 40) (named_type (word 46 47))
 
-abbrev lemma_l : Decl
+abbrev pub lemma_l : Decl
 lemma_l = decl.Formula (word 48 49) formula_word.Lemma application
 
 -- ---- What they say.
@@ -101,7 +101,7 @@ application_is =
 abbrev set_t : Tree
 set_t = TName (Own 0)
 
-abbrev all_p : Tree
+abbrev pub all_p : Tree
 all_p = Eq (Lam set_t (App (Const (Own 1)) (Var 0))) (Lam set_t True)
 
 abbrev entry_t : Entry
@@ -131,7 +131,7 @@ theory2 = theory_of (entry_t ∷ entry_p ∷ []) ([] ∷ (Own 0 ∷ []) ∷ [])
 abbrev theory3 : CheckedTheory
 theory3 = theory_of (entry_t ∷ entry_p ∷ entry_x ∷ []) ([] ∷ (Own 0 ∷ []) ∷ (Own 0 ∷ []) ∷ [])
 
-abbrev theory4 : CheckedTheory
+abbrev pub theory4 : CheckedTheory
 theory4 = theory_of (entry_t ∷ entry_p ∷ entry_x ∷ entry_l ∷ []) ([] ∷ (Own 0 ∷ []) ∷ (Own 0 ∷ []) ∷ (Own 0 ∷ Own 1 ∷ Own 0 ∷ Own 2 ∷ []) ∷ [])
 
 -- what a declaration makes of a theory, by the entry that is elaborated of it
@@ -165,17 +165,17 @@ read_from2 = ap (λ (r : Answer CheckedTheory). r >>= (λ u. with_declarations [
 read_from1 : with_declarations [] text theory1 (constant_p ∷ variable_x ∷ lemma_l ∷ []) ≡ Ok theory4
 read_from1 = ap (λ (r : Answer CheckedTheory). r >>= (λ u. with_declarations [] text u (variable_x ∷ lemma_l ∷ []))) read2 ∙ read_from2
 
-read_all : with_declarations [] text theory0 (type_decl ∷ constant_p ∷ variable_x ∷ lemma_l ∷ []) ≡ Ok theory4
+pub read_all : with_declarations [] text theory0 (type_decl ∷ constant_p ∷ variable_x ∷ lemma_l ∷ []) ≡ Ok theory4
 read_all = ap (λ (r : Answer CheckedTheory). r >>= (λ u. with_declarations [] text u (constant_p ∷ variable_x ∷ lemma_l ∷ []))) read1 ∙ read_from1
 
 -- ---- The interpretation.
 
-abbrev interpretation : FiniteMap
+abbrev pub interpretation : FiniteMap
 interpretation =
     record { reference = Own 0; denotation = Set (Atom 0 ∷ []) }
     ∷ record { reference = Own 1; denotation = Element (Row (Atom 0) (Truth false) EmptyTable) } ∷ []
 
-fits_before : FitsBefore (model_of interpretation) theory4.signature 3
+pub fits_before : FitsBefore (model_of interpretation) theory4.signature 3
 fits_before zero x l e = let z : entry_t.kind ≡ x = cc in subst (FitsKind (model_of interpretation) (Own 0)) z (refl, λ h. cc)
 fits_before (suc zero) x l e = let z : entry_p.kind ≡ x = cc in subst (FitsKind (model_of interpretation) (Own 1)) z (refl, inl refl)
 fits_before (suc (suc zero)) x l e = let z : entry_x.kind ≡ x = cc in subst (FitsKind (model_of interpretation) (Own 2)) z tt

@@ -1,0 +1,12 @@
+pub mod Members
+pub mod FormLaws
+pub mod NameLaws
+pub mod EntryLaws
+pub mod TheoryLaws
+pub mod PartLaws
+pub mod SoundVerdicts
+pub mod SoundReports
+pub mod OpenExample
+pub mod OpenExampleReads
+pub mod SoundOpen
+pub mod Examples

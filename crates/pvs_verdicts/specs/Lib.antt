@@ -1,0 +1,9 @@
+pub mod Names
+pub mod Forms
+pub mod Duplicates
+pub mod Parts
+pub mod Verdicts
+pub mod Outcomes
+pub mod Reporting
+pub mod Soundness
+pub mod SoundFacts
