@@ -1,0 +1,6 @@
+pub mod Binders
+pub mod Bindings
+pub mod Counts
+pub mod Finding
+pub mod Searching
+pub mod Tasks
