@@ -1,5 +1,5 @@
 -- What is found, and what is done with it.
-use Rattle.std.specs.Prelude.{ℕ, List, [], ◌∷◌, Ok}
+use Rattle.std.specs.Prelude.{ℕ, List, [], ◌∷◌, Option, Some, None, Ok}
 use Rattle.pvs_base.specs.Answers.{◌>>=◌}
 use Rattle.pvs_base.specs.declared.place.Pos.{Pos}
 use Rattle.pvs_base.specs.declared.code.Code.{Code}
@@ -40,6 +40,19 @@ value_numbers (value.Typed t) = (OfTerm, t.tree) ∷ (OfType, t.ty) ∷ []
 value_numbers (value.Term i) = (OfTerm, i) ∷ []
 value_numbers (value.Formed i) = (OfType, i) ∷ []
 value_numbers value.Done = []
+
+-- the number of a term, or of a type, that was found
+abbrev pub term_within : Value → Option ℕ
+term_within (value.Typed t) = None
+term_within (value.Term i) = Some i
+term_within (value.Formed i) = None
+term_within value.Done = None
+
+abbrev pub type_within : Value → Option ℕ
+type_within (value.Typed t) = None
+type_within (value.Term i) = None
+type_within (value.Formed i) = Some i
+type_within value.Done = None
 
 abbrev pub typed_answer : Answer TypedTree → Answer Meaning
 typed_answer r = r >>= (λ t. Ok (Typed t))

@@ -1,5 +1,8 @@
 //! What is asked of a part of a text, and what is found.
 
+ghost use Rattle.std.specs.Prelude.{◌≡◌};
+ghost use Rattle.pvs_elaboration.specs.Meanings as spec;
+
 use crate::here::Typed;
 use pvs_terms::Id;
 
@@ -25,4 +28,26 @@ pub enum Value {
     Term(Id),
     Formed(Id),
     Done,
+}
+
+impl Value {
+    /// The term, where a term without its type was found.
+    pub fn term(&self) -> Option<Id>
+        ensures { result ≡ spec.term_within self.now }
+    {
+        match self {
+            Value::Term(term) => Some(*term),
+            _ => None,
+        }
+    }
+
+    /// The type, where a type was found.
+    pub fn formed(&self) -> Option<Id>
+        ensures { result ≡ spec.type_within self.now }
+    {
+        match self {
+            Value::Formed(ty) => Some(*ty),
+            _ => None,
+        }
+    }
 }

@@ -6,6 +6,7 @@ mod existence;
 mod growth;
 mod names;
 mod nonempty;
+mod owed;
 mod place;
 mod predicate;
 mod scope;

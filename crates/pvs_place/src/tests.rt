@@ -224,6 +224,15 @@ fn typing_answers(rt: &impl Abort, place: &mut Place<NoCache>) -> Result<(), Fai
     a_type_is_replaced(rt, place)
 }
 
+fn truth_owes_nothing(rt: &impl Abort, place: &mut Place<NoCache>) -> Result<(), Fail> {
+    let here = place.outermost()?;
+    let of_type = place.type_conditions(&here.context, here.truth);
+    assert!(rt; matches!(&of_type, Ok(conditions) if conditions.is_empty()));
+    let of_term = place.term_conditions(&here.context, here.yes, here.truth);
+    assert!(rt; matches!(&of_term, Ok(conditions) if conditions.is_empty()));
+    Ok(())
+}
+
 /// A place serves for elaboration.
 fn as_scope<S: Scope>(scope: &S) -> &S {
     scope
@@ -237,6 +246,7 @@ fn a_place_answers(rt: HostRuntime) -> Result<(), Fail> {
     typing_answers(&rt, &mut place)?;
     let mut place = after_type(place)?;
     members_are_owed(&rt, &mut place)?;
+    truth_owes_nothing(&rt, &mut place)?;
     let instances = place.into_instances();
     let _store = instances.store();
     Ok(())
